@@ -1,5 +1,7 @@
+pub mod Departing
 pub mod Groups
 pub mod Halls
+pub mod Legs
 pub mod Ordered
 pub mod Pieces
 pub mod Planned

@@ -1,98 +1,59 @@
 -- Rows of the manager.
-use Rattle.std.proofs.Common.{◌≡◌, ℕ, ◌+◌, ◌≤◌, ◌<◌, ◌==◌, Bool, true, false, nat_lt, List, [], ◌∷◌, length, get_or, refl, ap, sym, subst, arith}
+use Rattle.std.proofs.Common.{◌≡◌, ℕ, ◌+◌, ◌≤◌, ◌<◌, Bool, true, false, nat_lt, List, [], ◌∷◌, length, get_or, refl, ap, sym, ◌∙◌, subst, arith}
 use Rattle.std.specs.Prelude.{Option, Some, None}
-use Rattle.std.specs.List.{AllByRecursion}
-use Rattle.std.specs.Str.Lines.{lines}
 use Rattle.std.proofs.lemmas.Bool.Decides.{nat_tests}
-use Rattle.std.proofs.lemmas.List.{length-map}
-use Rattle.airline_base.specs.declared.place.Place.{Place}
 use Rattle.desk_hall.specs.Orders.{IsCallBy, IsCalled, IsLegless, IsNumbered, IsOrder, IsOrderBy, IsRightOrder, IsRow, IsRowOf, IsUnnamed, is_for_desk, numbered_order, order_by_epoch}
+use Rattle.desk_hall.specs.OneLeg.{control_of}
 use Rattle.desk_hall.specs.declared.orders.Order.{Order}
-use Rattle.desk_hall.specs.declared.orders.Order.TheVariants.{Limit, Said}
+use Rattle.desk_hall.specs.declared.orders.Order.TheVariants.{Row, Said}
 use Rattle.airline_base.specs.Lines.{line_at}
 use Rattle.desk_lines.specs.Calls.{call_at}
 use Rattle.desk_lines.specs.Lines.{is_numbered, next_number}
 use Rattle.desk_lines.specs.declared.desk.Desk.{Desk}
 use Rattle.desk_lines.specs.declared.desk.Meaning.TheVariants.{Wrong}
 use Rattle.desk_lines.specs.declared.desk.Wrong.TheVariants as faults
-use Rattle.seat_journal.specs.declared.entry.Change.{Change}
-use Rattle.seat_limits.specs.ChangeRows.{IsChangeText, SpellsChanges}
+use Rattle.desk_hall.proofs.Legs.{control_on, each_sets, none_is, one_is}
+use Rattle.seat_journal.specs.declared.entry.Control.{Control}
+use Rattle.seat_limits.specs.ChangeRows.{IsChangeText}
 use Rattle.seat_limits.specs.declared.change_row.ChangeRow.{ChangeRow}
-use Rattle.seat_replies.specs.Changes.{IsOnLeg, change_of, on_leg, on_place, wanted_by}
-use Rattle.ssim_flights.specs.Places.{place_wanted}
+use Rattle.seat_replies.specs.Changes.{all_served, and_those, changes_of}
 use Rattle.ssim_flights.specs.declared.flight.Flight.{Flight as Flown}
-
--- ---- legs
-
-record IsSmall (row : ChangeRow) : Type 0 where
-  limit : row.limit ≤ 999
-  wait : row.wait ≤ 999
-
-all_small : (n : ℕ) (texts : List (List ℕ)) (rows : List ChangeRow) → SpellsChanges n texts rows → AllByRecursion IsSmall rows
-all_small n [] [] are = tt
-all_small n [] (row ∷ rows) are = absurd are
-all_small n ([] ∷ texts) rows are = all_small (n + 1) texts rows are
-all_small n ((c ∷ text) ∷ texts) [] are = absurd are
-all_small n ((c ∷ text) ∷ texts) (row ∷ rows) are =
-    (record { limit = are.0.is_entry.limit; wait = are.0.is_entry.wait }, all_small (n + 1) texts rows are.1)
-
-on_one : (flights : List Flown) (row : ChangeRow) (change : Change) (place : Option Place) → IsSmall row
-    → place_wanted flights (wanted_by row) ≡ place → on_place row place ≡ Some change → IsOnLeg flights change
-on_one flights row change None small found is = absurd cc
-on_one flights row change (Some place) small found is = cases_of (place.from == place.to) refl
-  where
-    leg : place.from ≡ place.to → on_leg row place ≡ change → IsOnLeg flights change
-    leg same e = subst (IsOnLeg flights) e (record {
-      wanted = wanted_by row;
-      place = place;
-      serves = found;
-      one_leg = same;
-      flight_is = refl;
-      leg_is = refl;
-      limit_most = small.limit;
-      wait_most = small.wait;
-    })
-
-    cases_of : (t : Bool) → (place.from == place.to) ≡ t → IsOnLeg flights change
-    cases_of true e = let h = rw e at is in leg (grind (arith, nat_tests, e)) (cc h)
-    cases_of false e = let h = rw e at is in absurd (cc h)
 
 -- ---- rows
 
--- one that a leg serves
-pub row_made : (flights : List Flown) (text : List ℕ) (rows : List ChangeRow) (row : ChangeRow) (change : Change)
-    → IsChangeText text rows → rows ≡ row ∷ [] → change_of flights row ≡ Some change → IsRowOf flights text change
-row_made flights text rows row change are is at = record {
+-- one that is for one leg
+pub row_made : (flights : List Flown) (text : List ℕ) (rows : List ChangeRow) (row : ChangeRow) (control : Control)
+    → IsChangeText text rows → rows ≡ row ∷ [] → control_of flights row ≡ Some control → IsRowOf flights text control
+row_made flights text rows row control are is at = record {
   rows = rows;
   are_rows = are;
-  served = rw is (ap (λ (o : Option Change). o ∷ []) at);
+  served = ap (all_served flights) is ∙ ap (λ (o : Option (List Control)). and_those o (Some [])) (one_is (changes_of flights row) control at);
 }
 
-pub row_right : (flights : List Flown) (text : List ℕ) (rows : List ChangeRow) (row : ChangeRow) (change : Change)
-    → IsChangeText text rows → rows ≡ row ∷ [] → change_of flights row ≡ Some change → IsRightOrder flights (Limit change)
-row_right flights text rows row change are is at =
-    let small : AllByRecursion IsSmall (row ∷ []) =
-    subst (AllByRecursion IsSmall) is (all_small 1 (lines text) rows are.spelled) in
-    (on_one flights row change (place_wanted flights (wanted_by row)) small.0 refl at, tt)
+pub row_right : (flights : List Flown) (text : List ℕ) (rows : List ChangeRow) (row : ChangeRow) (control : Control)
+    → IsChangeText text rows → rows ≡ row ∷ [] → control_of flights row ≡ Some control → IsRightOrder flights (Row control)
+row_right flights text rows row control are is at = control_on flights text rows row control are is at
 
--- one that none does
+-- one that is for none, or for several
 pub row_legless : (flights : List Flown) (text : List ℕ) (rows : List ChangeRow) (row : ChangeRow)
-    → IsChangeText text rows → rows ≡ row ∷ [] → change_of flights row ≡ None → IsLegless flights text
+    → IsChangeText text rows → rows ≡ row ∷ [] → control_of flights row ≡ None → IsLegless flights text
 row_legless flights text rows row are is at = record {
   rows = rows;
   some = omega (arith, ap length is);
   are_rows = are;
-  unserved = λ change served. let there = rw is at served in absurd cc;
+  unserved = λ control served. none_is (changes_of flights row) control at (ap (all_served flights) (sym is) ∙ served);
 }
 
--- several are no change
+-- several set more than one
 pub rows_legless : (flights : List Flown) (text : List ℕ) (rows : List ChangeRow) → IsChangeText text rows → 1 < length rows
     → IsLegless flights text
 rows_legless flights text rows are several = record {
   rows = rows;
   some = omega (arith, several);
   are_rows = are;
-  unserved = λ change served. let same = ap length served in absurd (omega (arith, same, several, length-map rows (change_of flights)));
+  unserved = λ control served.
+      let few : length rows ≤ 1 = each_sets flights rows (control ∷ []) served in
+      absurd (omega (arith, several, few));
 }
 
 -- the row is the only one

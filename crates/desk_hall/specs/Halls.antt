@@ -1,5 +1,5 @@
 -- A host of several desks, and what a line of one of them leaves.
-use Rattle.std.specs.Prelude.{◌≡◌, ◌≤◌, ◌-◌, ◌+◌, ◌^◌, ◌==◌, ℕ, min, Bool, true, false, List, [], ◌∷◌, ◌++◌, length, set, slice_get, Option, Some, None}
+use Rattle.std.specs.Prelude.{◌≡◌, ◌≤◌, ◌-◌, ◌+◌, ◌^◌, ◌==◌, ℕ, min, nat_lt, Bool, true, false, List, [], ◌∷◌, ◌++◌, length, set, slice_get, Option, Some, None}
 use Rattle.std.specs.Prelude.{option_to_list}
 use Rattle.airline_base.specs.Days.{IsCenturyDay}
 use Rattle.desk_answers.specs.Saying.{HasHeard}
@@ -9,7 +9,7 @@ use Rattle.desk_lines.specs.declared.desk.Meaning.{Meaning}
 use Rattle.desk_telling.specs.Telling.{AreTold}
 use Rattle.desk_hall.specs.Orders.{IsOrder}
 use Rattle.desk_hall.specs.Pieces.{backlog_behind, backlog_of, piece_end, told_between}
-use Rattle.desk_hall.specs.Planning.{Plans, PlansOrder, day_behind, goes_on}
+use Rattle.desk_hall.specs.Planning.{Plans, PlansOrder, PlansRow, day_behind, goes_on}
 use Rattle.desk_hall.specs.Telling.{IsTurn}
 use Rattle.desk_hall.specs.declared.backlog.Asking.{Asking}
 use Rattle.desk_hall.specs.declared.orders.Order.{Order}
@@ -19,6 +19,7 @@ use Rattle.ssim_flights.specs.declared.flight.Flight.{Flight as Flown}
 use Rattle.seat_desk.specs.FlightsDesk.{IsText}
 use Rattle.seat_desk.specs.Loading.{IsGridOf}
 use Rattle.seat_replies.specs.RunDesk.{at_any}
+use Rattle.seat_journal.specs.declared.entry.Control.{Control}
 use Rattle.seat_serving.specs.Answering.{behind, AreRight}
 use Rattle.seat_serving.specs.Served.{Served}
 use Rattle.seat_serving.specs.declared.asked.Asked.{Asked}
@@ -92,6 +93,17 @@ pub record IsUnordered {D : Type 0} (old new : Hallful D) : Type 0 where
   pub asked_is : new.asked ≡ old.asked
   pub turns_are : new.turns ≡ old.turns
   pub desks_are : new.desks ≡ old.desks
+  pub same_host : IsSameHost old new
+
+-- what the host sets by itself comes to what a row of the manager without a number does
+pub record IsSet {D : Type 0} (old new : Hallful D) (control : Control) : Type 0 where
+  pub plan : Plan
+  pub plans : PlansRow (nat_lt (length (behind old.serving.grid old.serving.journal old.asked)) old.serving.cap)
+      (behind old.serving.grid old.serving.journal old.asked) control plan
+  pub asked_is : new.asked ≡ old.asked ++ option_to_list plan.asked
+  pub turns_are : new.turns ≡ old.turns ++ plan.turn ∷ []
+  pub desks_are : new.desks ≡ old.desks
+  pub manager_is : new.manager ≡ old.manager
   pub same_host : IsSameHost old new
 
 -- and what it comes to stands behind what was heard before it

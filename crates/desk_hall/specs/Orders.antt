@@ -1,6 +1,5 @@
 -- What a line of the manager asks for.
 use Rattle.std.specs.Prelude.{◌≡◌, ◌<◌, ℕ, ◌+◌, ◌==◌, ◌&&◌, nat_le, nat_lt, Bool, true, false, if◌then◌else◌, List, [], ◌∷◌, length, codes, Option, Some, None, Err, ⊤}
-use Rattle.std.specs.List.{AllByRecursion}
 use Rattle.std.specs.Str.Lines.{lines}
 use Rattle.airline_base.specs.Days.{civil_in, IsCenturyDay}
 use Rattle.airline_base.specs.Fields.{◌>>=◌, two_are, two_value, word_at}
@@ -16,10 +15,10 @@ use Rattle.desk_lines.specs.declared.desk.Standing.{Standing}
 use Rattle.desk_lines.specs.declared.desk.Standing.TheVariants.{Silent}
 use Rattle.desk_lines.specs.declared.desk.Wrong.TheVariants as faults
 use Rattle.desk_hall.specs.declared.orders.Order.{Order}
-use Rattle.desk_hall.specs.declared.orders.Order.TheVariants.{Said, Limit, LimitCall, Refused, RefusedCall, Day, Stop}
+use Rattle.desk_hall.specs.declared.orders.Order.TheVariants.{Said, Row, RowCall, Refused, RefusedCall, Day, Stop}
 use Rattle.desk_hall.specs.declared.orders.RowFault.{RowFault}
 use Rattle.desk_hall.specs.declared.orders.RowFault.TheVariants.{Malformed, NoLeg}
-use Rattle.seat_journal.specs.declared.entry.Change.{Change}
+use Rattle.seat_journal.specs.declared.entry.Control.{Control}
 use Rattle.seat_limits.specs.ChangeRows.{IsChangeText, changes_in}
 use Rattle.seat_limits.specs.FaultText.{kind_text}
 use Rattle.seat_limits.specs.declared.change_row.ChangeRow.{ChangeRow}
@@ -81,11 +80,11 @@ order_in is_earlier text meaning = Said meaning
 
 -- ---- rows
 
--- the row asks for this change, on the one leg that serves it
-pub record IsRowOf (flights : List Flown) (text : List ℕ) (change : Change) : Type 0 where
+-- the row sets this alone, on the one leg that it is for
+pub record IsRowOf (flights : List Flown) (text : List ℕ) (control : Control) : Type 0 where
   pub rows : List ChangeRow
   pub are_rows : IsChangeText text rows
-  pub served : AreServed flights rows (change ∷ [])
+  pub served : AreServed flights rows (control ∷ [])
 
 -- it has this fault, its first
 pub record IsMalformed (text : List ℕ) (kind : LimitKind) : Type 0 where
@@ -93,18 +92,18 @@ pub record IsMalformed (text : List ℕ) (kind : LimitKind) : Type 0 where
   pub first : changes_in 1 (lines text) ≡ Err fault
   pub kind_is : kind ≡ fault.kind
 
--- it is a row, and no one leg serves it
+-- it is a row, and for no one leg: none serves it, or more than one
 pub record IsLegless (flights : List Flown) (text : List ℕ) : Type 0 where
   pub rows : List ChangeRow
   pub some : 0 < length rows
   pub are_rows : IsChangeText text rows
-  pub unserved : (change : Change) → AreServed flights rows (change ∷ []) → ⊥
+  pub unserved : (control : Control) → AreServed flights rows (control ∷ []) → ⊥
 
 -- what a line that is no word asks for
 abbrev pub IsRow : List Flown → List ℕ → Order → Type 0
 IsRow flights text (Said Nothing) = IsChangeText text []
 IsRow flights text (Said (Wrong faults.TooLong)) = 256 < length text
-IsRow flights text (Limit change) = IsRowOf flights text change
+IsRow flights text (Row control) = IsRowOf flights text control
 IsRow flights text (Refused (Malformed kind)) = IsMalformed text kind
 IsRow flights text (Refused NoLeg) = IsLegless flights text
 IsRow flights text order = ⊥
@@ -119,7 +118,7 @@ numbered_meaning call meaning = meaning
 -- the same as the call of this number
 abbrev pub numbered_order : ℕ → Order → Order
 numbered_order call (Said meaning) = Said (numbered_meaning call meaning)
-numbered_order call (Limit change) = LimitCall call change
+numbered_order call (Row control) = RowCall call control
 numbered_order call (Refused fault) = RefusedCall call fault
 numbered_order call order = order
 
@@ -153,7 +152,7 @@ row_text NoLeg = codes "U1"
 -- of a manager whose client is for another journal each numbered row is refused, as a desk's numbered line is
 abbrev pub order_by_epoch : Bool → Order → Order
 order_by_epoch true (Said meaning) = Said (by_epoch true meaning)
-order_by_epoch true (LimitCall call change) = Said (WrongCall call faults.Epoch)
+order_by_epoch true (RowCall call control) = Said (WrongCall call faults.Epoch)
 order_by_epoch true (RefusedCall call fault) = Said (WrongCall call faults.Epoch)
 order_by_epoch stranger order = order
 
@@ -185,10 +184,10 @@ abbrev pub IsOrder : Bool → List Flown → Desk → Desk → List ℕ → Orde
 IsOrder is_earlier flights old new line order =
     IsOrderBy (is_for_desk old.standing line) is_earlier flights old new line order
 
--- a change is on a leg of the flights
+-- what is set is set on a leg of the flights
 abbrev pub IsRightOrder : List Flown → Order → Type 0
-IsRightOrder flights (Limit change) = AllByRecursion (IsOnLeg flights) (change ∷ [])
-IsRightOrder flights (LimitCall call change) = AllByRecursion (IsOnLeg flights) (change ∷ [])
+IsRightOrder flights (Row control) = IsOnLeg flights control
+IsRightOrder flights (RowCall call control) = IsOnLeg flights control
 IsRightOrder flights order = ⊤
 
 -- a day is of the years 2000 to 2099

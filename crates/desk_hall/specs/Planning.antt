@@ -11,9 +11,9 @@ use Rattle.desk_hall.specs.declared.orders.Order.{Order}
 use Rattle.desk_hall.specs.declared.orders.Order.TheVariants as orders
 use Rattle.desk_hall.specs.declared.planning.Plan.{Plan}
 use Rattle.desk_hall.specs.declared.turn.Turn.TheVariants.{Line, Full, Repeated, RepeatedRow, Quiet, Refused, RefusedCall, Stands}
-use Rattle.seat_journal.specs.declared.entry.Change.{Change}
+use Rattle.seat_journal.specs.declared.entry.Control.{Control}
 use Rattle.seat_journal.specs.declared.entry.Entry.{Entry}
-use Rattle.seat_journal.specs.declared.entry.Work.TheVariants.{Limit}
+use Rattle.seat_journal.specs.Controls.{set_by}
 use Rattle.seat_serving.specs.declared.asked.Asked.{Asked}
 use Rattle.seat_rules.specs.Journal.{calls_of}
 use Rattle.ssim_flights.specs.declared.flight.Flight.{Flight as Flown}
@@ -48,21 +48,21 @@ Plans flights cap session desk past meaning plan = PlansQuiet session desk meani
 
 -- ---- the manager
 
--- another limit, which session 0 asks for
-abbrev pub limit_asked : Change → Asked
-limit_asked change = record { session = 0; work = Limit change }
+-- what a row sets, which session 0 asks for
+abbrev pub control_asked : Control → Asked
+control_asked control = record { session = 0; work = set_by control }
 
 -- where there is room its line is the next, and else the journal is full
-abbrev pub PlansLimit : Bool → List Entry → Change → Plan → Type 0
-PlansLimit true past change plan = (plan.turn ≡ Line (length past)) × (plan.asked ≡ Some (limit_asked change))
-PlansLimit false past change plan = (plan.turn ≡ Full 0 (calls_of past 0 + 1)) × (plan.asked ≡ None)
+abbrev pub PlansRow : Bool → List Entry → Control → Plan → Type 0
+PlansRow true past control plan = (plan.turn ≡ Line (length past)) × (plan.asked ≡ Some (control_asked control))
+PlansRow false past control plan = (plan.turn ≡ Full 0 (calls_of past 0 + 1)) × (plan.asked ≡ None)
 
 -- the next call is asked for; one that is there is told once more; one beyond the next is refused
-abbrev pub PlansLimitCall : Bool → Bool → ℕ → Desk → ℕ → List Entry → Change → Plan → Type 0
-PlansLimitCall true there cap manager number past change plan = PlansLimit (nat_lt (length past) cap) past change plan
-PlansLimitCall false true cap manager number past change plan =
-    (plan.turn ≡ RepeatedRow number change) × (plan.asked ≡ None)
-PlansLimitCall false false cap manager number past change plan =
+abbrev pub PlansRowCall : Bool → Bool → ℕ → Desk → ℕ → List Entry → Control → Plan → Type 0
+PlansRowCall true there cap manager number past control plan = PlansRow (nat_lt (length past) cap) past control plan
+PlansRowCall false true cap manager number past control plan =
+    (plan.turn ≡ RepeatedRow number control) × (plan.asked ≡ None)
+PlansRowCall false false cap manager number past control plan =
     PlansQuiet 0 manager (WrongCall number Beyond) plan
 
 -- the later of today and the day of an order
@@ -73,9 +73,9 @@ day_behind today order = today
 -- the manager stands so behind its line, at a journal of its epoch, and today is the day that holds then
 abbrev pub PlansOrder : ℕ → Desk → ℕ → List Entry → Order → Plan → Type 0
 PlansOrder cap manager today past (orders.Said meaning) plan = PlansQuiet 0 manager meaning plan
-PlansOrder cap manager today past (orders.Limit change) plan = PlansLimit (nat_lt (length past) cap) past change plan
-PlansOrder cap manager today past (orders.LimitCall number change) plan =
-    PlansLimitCall (number == calls_of past 0 + 1) (nat_le number (calls_of past 0)) cap manager number past change plan
+PlansOrder cap manager today past (orders.Row control) plan = PlansRow (nat_lt (length past) cap) past control plan
+PlansOrder cap manager today past (orders.RowCall number control) plan =
+    PlansRowCall (number == calls_of past 0 + 1) (nat_le number (calls_of past 0)) cap manager number past control plan
 PlansOrder cap manager today past (orders.Refused fault) plan = (plan.turn ≡ Refused fault manager.lines) × (plan.asked ≡ None)
 PlansOrder cap manager today past (orders.RefusedCall number fault) plan =
     (plan.turn ≡ RefusedCall fault number) × (plan.asked ≡ None)

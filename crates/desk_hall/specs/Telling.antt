@@ -15,9 +15,9 @@ use Rattle.desk_hall.specs.declared.turn.Turn.TheVariants.{Line, Full, Repeated,
 use Rattle.seat_rules.specs.Journal.{calls_of}
 use Rattle.desk_telling.specs.Telling.{AreTold, Telling, told_of}
 use Rattle.ssim_flights.specs.declared.flight.Flight.{Flight as Flown}
-use Rattle.seat_journal.specs.declared.entry.Change.{Change}
+use Rattle.seat_journal.specs.Controls.{set_by}
+use Rattle.seat_journal.specs.declared.entry.Control.{Control}
 use Rattle.seat_journal.specs.declared.entry.Entry.{Entry}
-use Rattle.seat_journal.specs.declared.entry.Work.TheVariants.{Limit}
 use Rattle.seat_nesting.specs.Nesting.{Ladders}
 use Rattle.seat_replies.specs.VeryRequest.{IsVeryRequest}
 
@@ -50,19 +50,19 @@ IsRepeatTo true flights journal asker number wish text =
 IsRepeatTo false flights journal asker number wish text = text ≡ []
 
 -- the same of the manager's row
-abbrev pub IsRowRepeatOf : List Flown → List Entry → ℕ → Entry → Change → List ℕ → Type 0
-IsRowRepeatOf flights journal number line change text =
-    ((Limit change ≡ line.work) × AreTold flights 0 (told_of journal 0 line) text)
-    ⊎ ((Limit change ≡ line.work → ⊥) × (text ≡ wrong_call_line faults.Other 0 number))
+abbrev pub IsRowRepeatOf : List Flown → List Entry → ℕ → Entry → Control → List ℕ → Type 0
+IsRowRepeatOf flights journal number line control text =
+    ((set_by control ≡ line.work) × AreTold flights 0 (told_of journal 0 line) text)
+    ⊎ ((set_by control ≡ line.work → ⊥) × (text ≡ wrong_call_line faults.Other 0 number))
 
-abbrev pub IsRowRepeat : Option Entry → List Flown → List Entry → ℕ → Change → List ℕ → Type 0
-IsRowRepeat (Some line) flights journal number change text = IsRowRepeatOf flights journal number line change text
-IsRowRepeat None flights journal number change text = text ≡ wrong_call_line faults.Beyond 0 number
+abbrev pub IsRowRepeat : Option Entry → List Flown → List Entry → ℕ → Control → List ℕ → Type 0
+IsRowRepeat (Some line) flights journal number control text = IsRowRepeatOf flights journal number line control text
+IsRowRepeat None flights journal number control text = text ≡ wrong_call_line faults.Beyond 0 number
 
-abbrev pub IsRowRepeatTo : Bool → List Flown → List Entry → ℕ → Change → List ℕ → Type 0
-IsRowRepeatTo true flights journal number change text =
-    IsRowRepeat (call_line 0 number journal) flights journal number change text
-IsRowRepeatTo false flights journal number change text = text ≡ []
+abbrev pub IsRowRepeatTo : Bool → List Flown → List Entry → ℕ → Control → List ℕ → Type 0
+IsRowRepeatTo true flights journal number control text =
+    IsRowRepeat (call_line 0 number journal) flights journal number control text
+IsRowRepeatTo false flights journal number control text = text ≡ []
 
 -- what books nothing
 abbrev pub IsQuietTo : Bool → List Flown → Ladders → List Entry → ℕ → Desk → Meaning → List ℕ → Type 0
@@ -98,8 +98,8 @@ IsTurn flights grid journal session (Line place) text = AreTold flights session 
 IsTurn flights grid journal session (Full asker call) text = text ≡ full_to (asker == session) asker call
 IsTurn flights grid journal session (Repeated asker number wish) text =
     IsRepeatTo (asker == session) flights journal asker number wish text
-IsTurn flights grid journal session (RepeatedRow number change) text =
-    IsRowRepeatTo (session == 0) flights journal number change text
+IsTurn flights grid journal session (RepeatedRow number control) text =
+    IsRowRepeatTo (session == 0) flights journal number control text
 IsTurn flights grid journal session (Quiet asker desk meaning) text =
     IsQuietTo (asker == session) flights grid journal asker desk meaning text
 IsTurn flights grid journal session (Refused fault number) text = text ≡ refused_to (session == 0) fault number

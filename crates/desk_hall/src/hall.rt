@@ -11,25 +11,28 @@ ghost use Rattle.seat_serving.specs.Answering.{behind};
 ghost use Rattle.seat_serving.specs.declared.serving.ServeFault.TheVariants.{Device, Memory as NoMemory};
 ghost use Rattle.desk_answers.specs.Hosts.{IsReady};
 ghost use Rattle.desk_hall.specs.Booking.{IsBehindSome};
-ghost use Rattle.desk_hall.specs.Halls.{lines_behind, HasHeardLine, IsHeardBy, IsOpened, IsOrdered, IsPassed, IsPiece, IsSameHall, IsToldTo, IsUnheard, IsUnordered};
+ghost use Rattle.desk_hall.specs.Halls.{lines_behind, HasHeardLine, IsHeardBy, IsOpened, IsOrdered, IsPassed, IsPiece, IsSameHall, IsSameHost, IsSet, IsToldTo, IsUnheard, IsUnordered};
+ghost use Rattle.desk_hall.specs.Departed.{closings, AreOnLegs};
 ghost use Rattle.desk_hall.specs.Pieces.{again_asked, backlog_of};
+ghost use Rattle.seat_replies.specs.Changes.{IsOnLeg};
 ghost use Rattle.desk_lines.specs.Lines.{IsRightMeaning};
 
 use crate::backlog::{
     Backlogs, again_asked, backlog_behind, backlog_of, piece_end, set_backlog, told_between,
 };
 use crate::booking::book;
-use crate::ordering::{day_behind, goes_on, plan_of_order};
+use crate::departed::closings;
+use crate::ordering::{day_behind, goes_on, plan_of_order, plan_row};
 use crate::orders::order_of;
 use crate::planning::{Plan, plan_of};
 use crate::telling::told_by;
 use crate::turn::Turn;
 use airimp_lines::{FlightClass, LineFault, Look, Request, ScriptKind, Segment};
-use airline_base::{Day, Memory};
+use airline_base::{Class, Day, Memory};
 use desk_calls::CallIndex;
 use desk_lines::{Desk, Meaning, Standing, Wrong};
 use seat_disk::Tape;
-use seat_journal::{Change, Work};
+use seat_journal::{Change, Control, SaleChange, Work};
 use seat_serving::{Asked, ServeFault, Serving};
 use ssim_flights::{Flights, Served};
 use std::alloc::Global;
@@ -241,12 +244,44 @@ impl<'a, D: Tape> Hall<'a, D> {
             backlogs: _,
         } = self;
         manager.today = *today;
-        let order = order_of(alloc, served, manager, line, is_earlier)?;
+        let order = order_of(alloc, flights, served, manager, line, is_earlier)?;
         let day = day_behind(*today, &order);
         let plan = plan_of_order(flights, serving, asked.as_slice(), manager, day, order);
         add(asked, turns, &plan)?;
         *today = day;
         Ok(goes_on(&order))
+    }
+
+    /// A closing for each leg that departed before the day of the host and has a class open still, in the order of flight and leg.
+    pub fn closings(&self, alloc: Global) -> Result<Vec<Control>, Memory>
+        ensures value { IfOk result (λ all. all.items ≡ closings self.now) }
+        ensures legs { IfOk result (λ all. AreOnLegs self.now.flights all.items) }
+    {
+        closings(alloc, self.flights, &self.serving, self.today)
+    }
+
+    /// Hears what the host sets by itself, which comes to what a row of the manager without a number does. Where memory is wanting nothing
+    /// comes of it.
+    pub fn set(&mut self, control: Control) -> Result<(), Memory>
+        requires on { IsOnLeg self.old.flights control }
+        ensures set { OnOk result (IsSet self.old self.new control) }
+        ensures memory { OnErr result (self.new ≡ self.old) }
+        ensures same { IsSameHost self.old self.new }
+    {
+        let Hall {
+            flights,
+            served: _,
+            serving,
+            today: _,
+            desks: _,
+            manager: _,
+            calls: _,
+            asked,
+            turns,
+            backlogs: _,
+        } = self;
+        let plan = plan_row(flights, serving, asked.as_slice(), control);
+        add(asked, turns, &plan)
     }
 
     /// Books what the lines that were heard ask for, in their order and in groups: it is on the disk and visible. Where memory is wanting
@@ -432,7 +467,10 @@ fn add(asked: &mut Vec<Asked>, turns: &mut Vec<Turn>, plan: &Plan) -> Result<(),
     let _wrong: Option<Wrong> = None;
     let _kind: Option<ScriptKind> = None;
     let _fault: Option<LineFault> = None;
+    let _control: Option<Control> = None;
     let _change: Option<Change> = None;
+    let _sale: Option<SaleChange> = None;
+    let _class: Option<Class> = None;
     let length = turns.len();
     push(turns, plan.turn)?;
     if add_asked(asked, plan.asked).is_ok() {
@@ -448,8 +486,10 @@ fn add_asked(asked: &mut Vec<Asked>, more: Option<Asked>) -> Result<(), Memory>
 {
     match more {
         Some(one) => {
-            // For the prover alone: it is told where this type is.
+            // For the prover alone: it is told where these types are.
             let _work: Work = one.work;
+            let _sale: Option<SaleChange> = None;
+            let _class: Option<Class> = None;
             push(asked, one)
         }
         None => Ok(()),

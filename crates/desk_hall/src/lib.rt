@@ -5,8 +5,10 @@
 
 mod backlog;
 mod booking;
+mod departed;
 mod hall;
 pub mod laws;
+mod one_leg;
 mod ordering;
 mod orders;
 mod planning;

@@ -2,7 +2,7 @@
 ghost use Rattle.std.specs.Prelude.{◌≡◌, ◌==◌, ◌≤◌, ◌<◌, ◌+◌, None, length, IfSome, nat_le, nat_lt};
 ghost use Rattle.airline_base.specs.Days.{IsCenturyDay};
 ghost use Rattle.desk_hall.specs.Orders.{IsOfCentury, IsRightOrder};
-ghost use Rattle.desk_hall.specs.Planning.{PlansLimit, PlansLimitCall, PlansOrder, day_behind, goes_on, limit_asked};
+ghost use Rattle.desk_hall.specs.Planning.{PlansOrder, PlansRow, PlansRowCall, control_asked, day_behind, goes_on};
 ghost use Rattle.desk_hall.specs.declared.orders.Order.TheVariants as orders;
 ghost use Rattle.seat_desk.specs.Loading.{IsGridOf};
 ghost use Rattle.seat_rules.specs.Journal.{calls_of};
@@ -14,7 +14,7 @@ use crate::turn::Turn;
 use airline_base::Day;
 use desk_lines::{Desk, Meaning, Wrong};
 use seat_disk::Tape;
-use seat_journal::{Change, Work};
+use seat_journal::Control;
 use seat_serving::{Asked, Serving};
 use ssim_flights::Flights;
 
@@ -37,9 +37,9 @@ pub(crate) fn plan_of_order<D: Tape>(
 {
     match order {
         Order::Said(meaning) => quiet(0, manager, meaning),
-        Order::Limit(change) => plan_limit(flights, serving, asked, change),
-        Order::LimitCall(number, change) => {
-            plan_limit_call(flights, serving, asked, manager, number, change)
+        Order::Row(control) => plan_row(flights, serving, asked, control),
+        Order::RowCall(number, control) => {
+            plan_row_call(flights, serving, asked, manager, number, control)
         }
         Order::Refused(fault) => unasked(Turn::Refused(fault, manager.lines)),
         Order::RefusedCall(number, fault) => unasked(Turn::RefusedCall(fault, number)),
@@ -54,67 +54,67 @@ fn unasked(turn: Turn) -> Plan
     Plan { turn, asked: None }
 }
 
-// Another limit is set where there is room.
-#[tactic(auto, using(crate::proofs::Ordered::limit_right, crate::proofs::Ordered::limit_room, crate::proofs::Ordered::limit_full))]
-fn plan_limit<D: Tape>(
+// What a row sets is asked for where there is room.
+#[tactic(auto, using(crate::proofs::Ordered::row_right, crate::proofs::Ordered::row_room, crate::proofs::Ordered::row_full))]
+pub(crate) fn plan_row<D: Tape>(
     flights: &Flights,
     serving: &Serving<D>,
     asked: &[Asked],
-    change: Change,
+    control: Control,
 ) -> Plan
     requires grid { IsGridOf flights.now serving.now.grid }
-    requires right { IsRightOrder flights.now (orders.Limit change) }
+    requires right { IsRightOrder flights.now (orders.Row control) }
     requires room { length serving.now.journal + length asked.now ≤ serving.now.cap }
     ensures right { IfSome result.asked (IsRight serving.now.grid) }
     ensures room { IfSome result.asked (λ a. length serving.now.journal + length asked.now < serving.now.cap) }
-    ensures plans { PlansLimit (nat_lt (length (behind serving.now.grid serving.now.journal asked.now)) serving.now.cap)
-        (behind serving.now.grid serving.now.journal asked.now) change result }
+    ensures plans { PlansRow (nat_lt (length (behind serving.now.grid serving.now.journal asked.now)) serving.now.cap)
+        (behind serving.now.grid serving.now.journal asked.now) control result }
 {
     if asked.len() < serving.room() as usize {
         let place = (serving.journal().len() + asked.len()) as u32;
         return Plan {
             turn: Turn::Line(place),
-            asked: Some(limit_asked(change)),
+            asked: Some(control_asked(control)),
         };
     }
     unasked(Turn::Full(0, calls_behind(serving, asked, 0) + 1))
 }
 
-// A numbered one is set where its number is that of the manager's next call.
-#[tactic(auto, using(crate::proofs::Ordered::limit_next, crate::proofs::Ordered::limit_there, crate::proofs::Ordered::limit_beyond))]
-fn plan_limit_call<D: Tape>(
+// The same of a numbered one where its number is that of the manager's next call.
+#[tactic(auto, using(crate::proofs::Ordered::row_next, crate::proofs::Ordered::row_there, crate::proofs::Ordered::row_beyond))]
+fn plan_row_call<D: Tape>(
     flights: &Flights,
     serving: &Serving<D>,
     asked: &[Asked],
     manager: &Desk,
     number: u32,
-    change: Change,
+    control: Control,
 ) -> Plan
     requires grid { IsGridOf flights.now serving.now.grid }
-    requires right { IsRightOrder flights.now (orders.Limit change) }
+    requires right { IsRightOrder flights.now (orders.Row control) }
     requires room { length serving.now.journal + length asked.now ≤ serving.now.cap }
     ensures right { IfSome result.asked (IsRight serving.now.grid) }
     ensures room { IfSome result.asked (λ a. length serving.now.journal + length asked.now < serving.now.cap) }
-    ensures plans { PlansLimitCall (number == calls_of (behind serving.now.grid serving.now.journal asked.now) 0 + 1)
+    ensures plans { PlansRowCall (number == calls_of (behind serving.now.grid serving.now.journal asked.now) 0 + 1)
         (nat_le number (calls_of (behind serving.now.grid serving.now.journal asked.now) 0)) serving.now.cap manager.now number
-        (behind serving.now.grid serving.now.journal asked.now) change result }
+        (behind serving.now.grid serving.now.journal asked.now) control result }
 {
     let calls = calls_behind(serving, asked, 0);
     if number == calls + 1 {
-        return plan_limit(flights, serving, asked, change);
+        return plan_row(flights, serving, asked, control);
     }
     if number <= calls {
-        return unasked(Turn::RepeatedRow(number, change));
+        return unasked(Turn::RepeatedRow(number, control));
     }
     quiet(0, manager, Meaning::WrongCall(number, Wrong::Beyond))
 }
 
-fn limit_asked(change: Change) -> Asked
-    ensures { result ≡ limit_asked change }
+fn control_asked(control: Control) -> Asked
+    ensures { result ≡ control_asked control }
 {
     Asked {
         session: 0,
-        work: Work::Limit(change),
+        work: control.work(),
     }
 }
 

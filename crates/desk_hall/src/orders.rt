@@ -1,7 +1,6 @@
-//! What a line of the manager asks for: another limit, a later day, or the end of it all.
+//! What a line of the manager asks for: another limit, a class that is closed or opened, a later day, or the end of it all.
 ghost use Rattle.std.specs.Prelude.{◌≡◌, ◌+◌, ◌≤◌, ◌<◌, ◌^◌, List, length, nat_lt, option_map, true, IfOk, IfSome};
 ghost use Rattle.seat_limits.specs.ChangeRows.{IsChangeText};
-ghost use Rattle.seat_replies.specs.Changes.{change_of, wanted_by};
 ghost use Rattle.airline_base.specs.Days.{IsCenturyDay, civil_in};
 ghost use Rattle.desk_lines.specs.Calls.{call_at};
 ghost use Rattle.desk_lines.specs.Lines.{is_numbered, is_word};
@@ -9,13 +8,14 @@ ghost use Rattle.desk_lines.specs.Words.{count_at};
 ghost use Rattle.desk_hall.specs.Orders.{day_at, in_century, is_for_desk, iso_day_at, numbered_meaning, order_by_epoch, order_in, own_order, stop_at, IsCallBy, IsNumbered, IsOfCentury, IsOrder, IsRightOrder, IsRow, IsUnnamed};
 ghost use Rattle.ssim_flights.specs.declared.flight.Flight.{Flight as Flown};
 
+use crate::one_leg::control_of;
 use airline_base::fields::{byte_of, digits_of, two_are, two_value, value_of, word_of};
 use airline_base::lines::cut_line;
 use airline_base::{Day, Memory};
 use desk_lines::{Desk, Meaning, Standing, Wrong, by_epoch};
-use seat_journal::Change;
+use seat_journal::Control;
 use seat_limits::{ChangeRow, LimitKind, read_changes};
-use ssim_flights::{Served, Wanted};
+use ssim_flights::{Flights, Served};
 use std::alloc::Global;
 use std::fmt;
 
@@ -59,10 +59,10 @@ impl fmt::Display for RowFault {
 pub enum Order {
     /// What it asks of any desk, which books nothing.
     Said(Meaning),
-    /// Another limit.
-    Limit(Change),
-    /// Another limit, as the call of this number.
-    LimitCall(u32, Change),
+    /// What a row sets.
+    Row(Control),
+    /// The same, as the call of this number.
+    RowCall(u32, Control),
     /// A row that is refused.
     Refused(RowFault),
     /// A row that is refused and has the number of this call.
@@ -78,11 +78,13 @@ pub enum Order {
 #[tactic(auto, using(crate::proofs::Rows::row_read))]
 pub fn order_of(
     alloc: Global,
+    flights: &Flights,
     served: &Served<'_>,
     manager: &mut Desk,
     line: &[u8],
     is_earlier: bool,
 ) -> Result<Order, Memory>
+    requires served { served.now ≡ flights.now }
     requires today { IsCenturyDay manager.old.today }
     ensures means { IfOk result (IsOrder is_earlier served.now manager.old manager.new line.now) }
     ensures right { IfOk result (IsRightOrder served.now) }
@@ -95,7 +97,7 @@ pub fn order_of(
     }
     manager.lines = manager.lines.saturating_add(1);
     let (text, _) = cut_line(line);
-    let order = unnamed_order(alloc, served, text)?;
+    let order = unnamed_order(alloc, flights, served, text)?;
     Ok(order_by_epoch(manager.is_stranger, order))
 }
 
@@ -119,7 +121,7 @@ fn strange(order: Order) -> Order
 {
     match order {
         Order::Said(meaning) => Order::Said(by_epoch(true, meaning)),
-        Order::LimitCall(call, _) => Order::Said(Meaning::WrongCall(call, Wrong::Epoch)),
+        Order::RowCall(call, _) => Order::Said(Meaning::WrongCall(call, Wrong::Epoch)),
         Order::RefusedCall(call, _) => Order::Said(Meaning::WrongCall(call, Wrong::Epoch)),
         _ => order,
     }
@@ -231,15 +233,21 @@ fn day_of(year: u8, month: u8, day: u8) -> Option<Day>
 }
 
 // What a line that is no word asks for: a row does, with the number of a call or without one.
-fn unnamed_order(alloc: Global, served: &Served<'_>, text: &[u8]) -> Result<Order, Memory>
+fn unnamed_order(
+    alloc: Global,
+    flights: &Flights,
+    served: &Served<'_>,
+    text: &[u8],
+) -> Result<Order, Memory>
+    requires served { served.now ≡ flights.now }
     ensures means { IfOk result (IsUnnamed (is_numbered text.now) served.now text.now) }
     ensures right { IfOk result (IsRightOrder served.now) }
     ensures century { IfOk result IsOfCentury }
 {
     if is_numbered(text) {
-        return call_order(alloc, served, text);
+        return call_order(alloc, flights, served, text);
     }
-    row_order(alloc, served, text)
+    row_order(alloc, flights, served, text)
 }
 
 fn is_numbered(text: &[u8]) -> bool
@@ -253,7 +261,13 @@ fn is_numbered(text: &[u8]) -> bool
 
 // The row behind the number of a call.
 #[tactic(auto, using(crate::proofs::Rows::called, crate::proofs::Rows::uncalled, crate::proofs::Rows::too_long))]
-fn call_order(alloc: Global, served: &Served<'_>, text: &[u8]) -> Result<Order, Memory>
+fn call_order(
+    alloc: Global,
+    flights: &Flights,
+    served: &Served<'_>,
+    text: &[u8],
+) -> Result<Order, Memory>
+    requires served { served.now ≡ flights.now }
     ensures means { IfOk result (IsCallBy (nat_lt 256 (length text.now)) served.now text.now) }
     ensures right { IfOk result (IsRightOrder served.now) }
     ensures century { IfOk result IsOfCentury }
@@ -264,20 +278,27 @@ fn call_order(alloc: Global, served: &Served<'_>, text: &[u8]) -> Result<Order, 
     let Some((call, row)) = call_of(text) else {
         return Ok(Order::Said(Meaning::Wrong(Wrong::Word)));
     };
-    numbered_row(alloc, served, call, row)
+    numbered_row(alloc, flights, served, call, row)
 }
 
 // What the row asks for, as the call of this number.
 #[tactic(auto, using(crate::proofs::Rows::numbered))]
-fn numbered_row(alloc: Global, served: &Served<'_>, call: u32, row: &[u8]) -> Result<Order, Memory>
+fn numbered_row(
+    alloc: Global,
+    flights: &Flights,
+    served: &Served<'_>,
+    call: u32,
+    row: &[u8],
+) -> Result<Order, Memory>
+    requires served { served.now ≡ flights.now }
     ensures means { IfOk result (IsNumbered served.now call row.now) }
     ensures right { IfOk result (IsRightOrder served.now) }
     ensures century { IfOk result IsOfCentury }
 {
-    let plain = row_order(alloc, served, row)?;
+    let plain = row_order(alloc, flights, served, row)?;
     match plain {
         Order::Said(meaning) => Ok(Order::Said(numbered_meaning(call, meaning))),
-        Order::Limit(change) => Ok(Order::LimitCall(call, change)),
+        Order::Row(control) => Ok(Order::RowCall(call, control)),
         Order::Refused(fault) => Ok(Order::RefusedCall(call, fault)),
         _ => Ok(plain),
     }
@@ -322,8 +343,14 @@ fn numbered_meaning(call: u32, meaning: Meaning) -> Meaning
     }
 }
 
-// The row of a line, on the one leg that serves it.
-fn row_order(alloc: Global, served: &Served<'_>, text: &[u8]) -> Result<Order, Memory>
+// The row of a line, on the one leg that it is for.
+fn row_order(
+    alloc: Global,
+    flights: &Flights,
+    served: &Served<'_>,
+    text: &[u8],
+) -> Result<Order, Memory>
+    requires served { served.now ≡ flights.now }
     ensures means { IfOk result (IsRow served.now text.now) }
     ensures right { IfOk result (IsRightOrder served.now) }
     ensures century { IfOk result IsOfCentury }
@@ -332,7 +359,7 @@ fn row_order(alloc: Global, served: &Served<'_>, text: &[u8]) -> Result<Order, M
         return Ok(Order::Said(Meaning::Wrong(Wrong::TooLong)));
     }
     match read_changes(alloc, text) {
-        Ok(rows) => rows_order(served, text, rows.as_slice()),
+        Ok(rows) => rows_order(flights, served, text, rows.as_slice()),
         Err(fault) => match fault.kind {
             LimitKind::Memory => Err(Memory),
             kind => Ok(Order::Refused(RowFault::Malformed(kind))),
@@ -340,9 +367,15 @@ fn row_order(alloc: Global, served: &Served<'_>, text: &[u8]) -> Result<Order, M
     }
 }
 
-// The change that the only row asks for. Where there is none the line was empty.
+// What the only row sets. Where there is none the line was empty.
 #[tactic(auto, using(crate::proofs::Rows::row_made, crate::proofs::Rows::row_right, crate::proofs::Rows::row_legless, crate::proofs::Rows::rows_legless))]
-fn rows_order(served: &Served<'_>, text: &[u8], rows: &[ChangeRow]) -> Result<Order, Memory>
+fn rows_order(
+    flights: &Flights,
+    served: &Served<'_>,
+    text: &[u8],
+    rows: &[ChangeRow],
+) -> Result<Order, Memory>
+    requires served { served.now ≡ flights.now }
     requires rows { IsChangeText text.now rows.now }
     requires short { length text.now ≤ 256 }
     ensures means { IfOk result (IsRow served.now text.now) }
@@ -351,40 +384,10 @@ fn rows_order(served: &Served<'_>, text: &[u8], rows: &[ChangeRow]) -> Result<Or
 {
     match rows {
         [] => Ok(Order::Said(Meaning::Nothing)),
-        [row] => match change_of(served, row) {
-            Some(change) => Ok(Order::Limit(change)),
+        [row] => match control_of(flights, served, row) {
+            Some(control) => Ok(Order::Row(control)),
             None => Ok(Order::Refused(RowFault::NoLeg)),
         },
         _ => Ok(Order::Refused(RowFault::NoLeg)),
-    }
-}
-
-// The change that a row asks for, where exactly one leg serves it.
-fn change_of(served: &Served<'_>, row: &ChangeRow) -> Option<Change>
-    ensures { result ≡ change_of served.now row.now }
-{
-    let place = served.find(&wanted_by(row))?;
-    if place.from != place.to {
-        return None;
-    }
-    Some(Change {
-        flight: place.flight,
-        leg: place.from,
-        class: row.class,
-        limit: row.limit,
-        wait: row.wait,
-    })
-}
-
-fn wanted_by(row: &ChangeRow) -> Wanted
-    ensures { result ≡ wanted_by row.now }
-{
-    Wanted {
-        airline: row.airline,
-        number: row.number,
-        suffix: row.suffix,
-        day: row.day,
-        board: row.board,
-        off: row.off,
     }
 }

@@ -3,7 +3,7 @@ use crate::orders::RowFault;
 use airimp_lines::Request;
 use airline_base::Day;
 use desk_lines::{Desk, Meaning};
-use seat_journal::Change;
+use seat_journal::Control;
 
 /// How a line is answered. A session's number stands first.
 #[derive(Clone, Copy)]
@@ -15,7 +15,7 @@ pub enum Turn {
     /// By the line of this call, where that is there and asked for this very request.
     Repeated(u8, u32, Request),
     /// The same of the manager's row.
-    RepeatedRow(u32, Change),
+    RepeatedRow(u32, Control),
     /// By what its meaning asks for, which books nothing; so stood the desk behind it.
     Quiet(u8, Desk, Meaning),
     /// By the fault of the manager's row, the line of this number.

@@ -9,7 +9,7 @@ use Rattle.desk_pipes.specs.Waiting.{Posted}
 use Rattle.desk_lines.specs.declared.desk.Desk.{Desk}
 use Rattle.desk_pipes.specs.declared.inbox.Said.{Said}
 use Rattle.desk_serving.specs.Going.{is_apart, IsHeardBehind}
-use Rattle.desk_serving.specs.Groups.{AreFrom, AreGroups, AreNotices, AreSteps, AreTaken, AreTold, GoesThrough, IsAnswered, IsBooked, IsCaughtUp, IsCaughtUpBy, IsForgotten, IsGiven, IsGroup, IsHallOver, IsOne, IsOneBy, IsOwn, IsServed, IsServedTo, IsStep, IsStepped, IsTaken, IsTakenApart, IsTakenUp, IsTold, IsToldOn, IsWordAnswered}
+use Rattle.desk_serving.specs.Groups.{AreFrom, AreGroups, AreNotices, AreSteps, AreTaken, AreTold, GoesThrough, IsAnswered, IsBooked, IsCaughtUp, IsCaughtUpBy, IsForgotten, IsGiven, IsGroup, IsHallOver, IsOne, IsOneBy, IsOwn, IsServed, IsServedTo, IsStep, IsStepped, IsTaken, IsTakenApart, IsTakenUp, IsTold, IsToldLast, IsToldOn, IsWordAnswered, has_day}
 use Rattle.desk_serving.specs.Silence.{IsSilentAt}
 use Rattle.desk_serving.specs.declared.step.Step.{Step}
 use Rattle.seat_journal.specs.declared.entry.Entry.{Entry}
@@ -233,12 +233,12 @@ module _ {D : Type 0} where
       subst (λ (l : List Said). AreTaken old l new both) (sym longer)
       (subst (λ (x : Bool). AreTaken old (take i said ++ one ∷ []) new x) (sym is) (taken_on old mid new (take i said) one goes more a b))
 
-  pub is_group : (old mid new : Hallful D) (said : List Said) (i : ℕ) (goes : Bool) → AreTaken old (take i said) mid goes → length said ≤ i
-      → IsToldOn mid new → IsGroup old said new goes
-  is_group old mid new said i goes a over b = record {
+  pub is_group : (closes is_to_close : Bool) (old mid new : Hallful D) (said : List Said) (i : ℕ) (goes : Bool) → AreTaken old (take i said) mid goes
+      → length said ≤ i → is_to_close ≡ (closes && has_day said) → IsToldLast is_to_close mid new → IsGroup closes old said new goes
+  is_group closes is_to_close old mid new said i goes a over is b = record {
     mid = mid;
     taken = subst (λ (l : List Said). AreTaken old l mid goes) (take_all i said over) a;
-    answered = b;
+    answered = subst (λ (t : Bool). IsToldLast t mid new) is b;
   }
 
   -- ---- a service
@@ -259,28 +259,28 @@ module _ {D : Type 0} where
     silent = silent;
   }
 
-  pub no_groups : (hall : Hallful D) → GoesThrough hall hall
-  no_groups hall = record { groups = []; are = refl }
+  pub no_groups : (closes : Bool) (hall : Hallful D) → GoesThrough closes hall hall
+  no_groups closes hall = record { groups = []; are = refl }
 
-  groups_on : (old mid new : Hallful D) (groups : List (List Said)) (said : List Said) → AreGroups old groups mid → IsGroup mid said new true
-      → AreGroups old (groups ++ said ∷ []) new
-  groups_on old mid new [] said a b = (new, subst (λ (h : Hallful D). IsGroup h said new true) a b, refl)
-  groups_on old mid new (x ∷ groups) said a b = (a.0, a.1, groups_on a.0 mid new groups said a.2 b)
+  groups_on : (closes : Bool) (old mid new : Hallful D) (groups : List (List Said)) (said : List Said) → AreGroups closes old groups mid
+      → IsGroup closes mid said new true → AreGroups closes old (groups ++ said ∷ []) new
+  groups_on closes old mid new [] said a b = (new, subst (λ (h : Hallful D). IsGroup closes h said new true) a b, refl)
+  groups_on closes old mid new (x ∷ groups) said a b = (a.0, a.1, groups_on closes a.0 mid new groups said a.2 b)
 
-  pub group_more : (old mid new : Hallful D) (said : List Said) (goes : Bool) → GoesThrough old mid → IsGroup mid said new goes → goes ≡ true
-      → GoesThrough old new
-  group_more old mid new said goes a b is =
-      let on : IsGroup mid said new true = subst (IsGroup mid said new) is b in
-      record { groups = a.groups ++ said ∷ []; are = groups_on old mid new a.groups said a.are on }
+  pub group_more : (closes : Bool) (old mid new : Hallful D) (said : List Said) (goes : Bool) → GoesThrough closes old mid
+      → IsGroup closes mid said new goes → goes ≡ true → GoesThrough closes old new
+  group_more closes old mid new said goes a b is =
+      let on : IsGroup closes mid said new true = subst (IsGroup closes mid said new) is b in
+      record { groups = a.groups ++ said ∷ []; are = groups_on closes old mid new a.groups said a.are on }
 
-  pub is_served : (old mid new : Hallful D) (said : List Said) (goes : Bool) → GoesThrough old mid → IsGroup mid said new goes → goes ≡ false
-      → IsServed old new
-  is_served old mid new said goes a b is = record { mid = mid; goes = a; last = said; ends = subst (IsGroup mid said new) is b }
+  pub is_served : (closes : Bool) (old mid new : Hallful D) (said : List Said) (goes : Bool) → GoesThrough closes old mid
+      → IsGroup closes mid said new goes → goes ≡ false → IsServed closes old new
+  is_served closes old mid new said goes a b is = record { mid = mid; goes = a; last = said; ends = subst (IsGroup closes mid said new) is b }
 
-  pub served_to : (flights : List Flown) (serving s : Served D) (today epoch : ℕ) (old new : Hallful D) (journal : List Entry)
-      → IsHallOver flights serving today epoch old → IsServed old new → s ≡ new.serving → journal ≡ s.journal
-      → IsServedTo flights serving today epoch journal
-  served_to flights serving s today epoch old new journal over served same is = record {
+  pub served_to : (closes : Bool) (flights : List Flown) (serving s : Served D) (today epoch : ℕ) (old new : Hallful D) (journal : List Entry)
+      → IsHallOver flights serving today epoch old → IsServed closes old new → s ≡ new.serving → journal ≡ s.journal
+      → IsServedTo closes flights serving today epoch journal
+  served_to closes flights serving s today epoch old new journal over served same is = record {
     old = old;
     new = new;
     over = over;

@@ -1,3 +1,4 @@
+pub mod Closings
 pub mod Daily
 pub mod Ended
 pub mod Goes

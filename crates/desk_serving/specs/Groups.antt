@@ -1,6 +1,9 @@
 -- The lines of a group, heard one by one, and what each desk is told of them.
-use Rattle.std.specs.Prelude.{◌≡◌, ◌⊎◌, ◌<◌, ◌+◌, ◌&&◌, ℕ, zero, suc, Bool, true, false, List, [], ◌∷◌, length, map, replicate, is_some, Option, None, All}
-use Rattle.desk_hall.specs.Halls.{Hallful, IsOpened, IsPiece, IsSameHall, IsToldTo}
+use Rattle.std.specs.Prelude.{◌≡◌, ◌⊎◌, ◌<◌, ◌+◌, ◌==◌, ◌&&◌, if◌then◌else◌, ◌++◌, ℕ, zero, suc, Bool, true, false, List, [], ◌∷◌, length, map, replicate, is_some, Option, None, All}
+use Rattle.airline_base.specs.Lines.{line_at}
+use Rattle.desk_hall.specs.Departed.{closings}
+use Rattle.desk_hall.specs.Halls.{Hallful, IsOpened, IsPiece, IsSameHall, IsSet, IsToldTo}
+use Rattle.desk_hall.specs.Orders.{day_at}
 use Rattle.desk_hall.specs.Pieces.{again_asked, backlog_of}
 use Rattle.desk_pipes.specs.Waiting.{Posted}
 use Rattle.desk_pipes.specs.declared.inbox.Said.{Said}
@@ -8,6 +11,7 @@ use Rattle.desk_serving.specs.Going.{is_apart, IsHeardBehind}
 use Rattle.desk_serving.specs.Silence.{IsSilentAt}
 use Rattle.desk_serving.specs.declared.step.Step.{Step}
 use Rattle.desk_serving.specs.declared.step.Step.TheVariants.{Full, NotBehind, Told}
+use Rattle.seat_journal.specs.declared.entry.Control.{Control}
 use Rattle.seat_journal.specs.declared.entry.Entry.{Entry}
 use Rattle.seat_serving.specs.Answering.{behind}
 use Rattle.seat_serving.specs.Served.{Served}
@@ -175,27 +179,60 @@ AreTaken {D} old [] new goes = (new ≡ old) × (goes ≡ true)
 AreTaken {D} old (one ∷ said) new goes =
     (mid : Hallful D) × (first more : Bool) × IsOne old mid one first × AreTaken mid said new more × (goes ≡ (first && more))
 
--- each line of a group is taken once, in their order, all of them are answered, and then whoever is behind and has room is told a piece
-pub record IsGroup {D : Type 0} (old : Hallful D) (said : List Said) (new : Hallful D) (goes : Bool) : Type 0 where
+-- ---- what departed
+
+-- the manager gives a day
+abbrev pub gives_day : Said → Bool
+gives_day one = (one.session == 0) && is_some (day_at (line_at one.line.items).0)
+
+abbrev pub has_day : List Said → Bool
+has_day [] = false
+has_day (one ∷ said) = if gives_day one then true else has_day said
+
+-- these are set one by one
+abbrev pub AreSet : {D : Type 0} → Hallful D → List Control → Hallful D → Type 0
+AreSet {D} old [] new = new ≡ old
+AreSet {D} old (control ∷ controls) new = (mid : Hallful D) × IsSet old mid control × AreSet mid controls new
+
+-- so are the first of them, as many as memory allows
+pub record AreFirstSet {D : Type 0} (old : Hallful D) (controls : List Control) (new : Hallful D) : Type 0 where
+  pub front : List Control
+  pub rest : List Control
+  pub parts : controls ≡ front ++ rest
+  pub are_set : AreSet old front new
+
+-- each leg that departed before the day of the host is closed, where it is to be
+abbrev pub IsClosedIf : {D : Type 0} → Bool → Hallful D → Hallful D → Type 0
+IsClosedIf true old new = AreFirstSet old (closings old) new
+IsClosedIf false old new = new ≡ old
+
+-- and then all that was heard is answered
+pub record IsToldLast {D : Type 0} (closes : Bool) (old new : Hallful D) : Type 0 where
   pub mid : Hallful D
-  pub taken : AreTaken old said mid goes
+  pub closed : IsClosedIf closes old mid
   pub answered : IsToldOn mid new
 
--- one group behind the other, none of which ends the host
-abbrev pub AreGroups : {D : Type 0} → Hallful D → List (List Said) → Hallful D → Type 0
-AreGroups {D} old [] new = new ≡ old
-AreGroups {D} old (said ∷ groups) new = (mid : Hallful D) × IsGroup old said mid true × AreGroups mid groups new
+-- each line of a group is taken once, in their order, all of them are answered, and then whoever is behind and has room is told a piece
+pub record IsGroup {D : Type 0} (closes : Bool) (old : Hallful D) (said : List Said) (new : Hallful D) (goes : Bool) : Type 0 where
+  pub mid : Hallful D
+  pub taken : AreTaken old said mid goes
+  pub answered : IsToldLast (closes && has_day said) mid new
 
-pub record GoesThrough {D : Type 0} (old new : Hallful D) : Type 0 where
+-- one group behind the other, none of which ends the host
+abbrev pub AreGroups : {D : Type 0} → Bool → Hallful D → List (List Said) → Hallful D → Type 0
+AreGroups {D} closes old [] new = new ≡ old
+AreGroups {D} closes old (said ∷ groups) new = (mid : Hallful D) × IsGroup closes old said mid true × AreGroups closes mid groups new
+
+pub record GoesThrough {D : Type 0} (closes : Bool) (old new : Hallful D) : Type 0 where
   pub groups : List (List Said)
-  pub are : AreGroups old groups new
+  pub are : AreGroups closes old groups new
 
 -- and the last ends it
-pub record IsServed {D : Type 0} (old new : Hallful D) : Type 0 where
+pub record IsServed {D : Type 0} (closes : Bool) (old new : Hallful D) : Type 0 where
   pub mid : Hallful D
-  pub goes : GoesThrough old mid
+  pub goes : GoesThrough closes old mid
   pub last : List Said
-  pub ends : IsGroup mid last new false
+  pub ends : IsGroup closes mid last new false
 
 -- ---- a whole service
 
@@ -211,10 +248,11 @@ pub record IsHallOver {D : Type 0} (flights : List Flown) (serving : Served D) (
   pub manager : IsSilentAt epoch hall.manager
   pub silent : All (IsSilentAt epoch) hall.desks
 
--- the journal is that of the groups that were answered up to the manager's end
-pub record IsServedTo {D : Type 0} (flights : List Flown) (serving : Served D) (today epoch : ℕ) (journal : List Entry) : Type 0 where
+-- the journal is that of the groups that were answered up to the manager's end, by a host that closes what departed or does not
+pub record IsServedTo {D : Type 0} (closes : Bool) (flights : List Flown) (serving : Served D) (today epoch : ℕ) (journal : List Entry)
+    : Type 0 where
   pub old : Hallful D
   pub new : Hallful D
   pub over : IsHallOver flights serving today epoch old
-  pub served : IsServed old new
+  pub served : IsServed closes old new
   pub journal_is : journal ≡ new.serving.journal

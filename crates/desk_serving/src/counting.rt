@@ -31,6 +31,7 @@ pub(crate) fn answer_counted<R: Wait, D: Tape, K: Replaced>(
     alloc: Global,
     hall: &mut Hall<'_, D>,
     post: &Post,
+    closes: bool,
     taken: &Taken,
     entry: &mut Sealed,
     seals: &mut K,
@@ -40,7 +41,7 @@ pub(crate) fn answer_counted<R: Wait, D: Tape, K: Replaced>(
     requires ready { IsReady D.seen D.may_leave D.unsynced hall.old.serving }
     requires dated { IsOnDay hall.old.today entry.old (K.may_leave seals.old) }
     requires counts { Counts tally.old hall.old.serving.journal }
-    ensures group { IfOk result (IsGroup hall.old taken.now hall.new) }
+    ensures group { IfOk result (IsGroup closes hall.old taken.now hall.new) }
     ensures goes { OnOk result (GoesOn D.seen D.may_leave D.unsynced D.failure_count hall.old.serving hall.new.serving) }
     ensures fails { IfErr result (FailsBy D.seen D.may_leave D.unsynced D.failure_count hall.old.serving hall.new.serving) }
     ensures sealed { OnOk result (IsSealedOn K.named K.may_leave K.kept_may_leave K.failure_count hall.new.today entry.old entry.new seals.old seals.new) }
@@ -49,7 +50,16 @@ pub(crate) fn answer_counted<R: Wait, D: Tape, K: Replaced>(
     ensures counts { OnOk result (Counts tally.new hall.new.serving.journal) }
     ensures groups { OnOk result (tally.new.groups ≡ groups_behind tally.old.groups (added tally.old hall.new.serving.journal)) }
 {
-    match answer_group(rt, alloc, hall, post, taken.as_slice(), entry, seals) {
+    match answer_group(
+        rt,
+        alloc,
+        hall,
+        post,
+        closes,
+        taken.as_slice(),
+        entry,
+        seals,
+    ) {
         Ok(goes_on) => {
             count(hall, tally);
             board.show(rt, *tally);

@@ -7,8 +7,9 @@ ghost use Rattle.desk_serving.specs.Going.{is_apart, Fails, GoesOn, IsHeardBehin
 ghost use Rattle.desk_serving.specs.Groups.{IsForgotten, IsGroup, IsOne, IsTaken, IsTakenApart, IsTakenUp};
 
 use crate::day::{GroupFault, keep_day};
+use crate::departing::has_day;
 use crate::notice::want_of;
-use crate::telling::{answer_heard, answer_last, answer_word, catch_up};
+use crate::telling::{answer_closing, answer_heard, answer_word, catch_up};
 use airline_base::Memory;
 use desk_hall::Hall;
 use desk_pipes::{Post, Said};
@@ -19,7 +20,8 @@ use std::alloc::Global;
 use std::sync::Wait;
 
 /// Hears these lines in their order, books what they ask for, and tells each desk what concerns it. A word to the host that is no look is
-/// answered behind all ahead of it and ahead of all behind it. Then each desk that is told the journal again is told a piece, where it has room.
+/// answered behind all ahead of it and ahead of all behind it. Behind a day of the manager's what departed before it is closed, where that is asked for.
+/// Then each desk that is told the journal again is told a piece, where it has room.
 /// Whether the host goes on.
 #[tactic(auto, using(crate::proofs::Goes::goes_same, crate::proofs::Goes::goes_further, crate::proofs::Goes::fails_behind, crate::proofs::Daily::fails_by_behind, crate::proofs::Daily::sealed_same, crate::proofs::Daily::sealed_further, crate::proofs::Daily::sealed_as, crate::proofs::Daily::stays_behind, crate::proofs::Daily::stays_on, crate::proofs::Daily::on_day_of, crate::proofs::Daily::by_inventory, crate::proofs::Daily::counts_none, crate::proofs::Groups::none_taken, crate::proofs::Groups::is_group))]
 pub(crate) fn answer_group<R: Wait, D: Tape, K: Replaced>(
@@ -27,13 +29,14 @@ pub(crate) fn answer_group<R: Wait, D: Tape, K: Replaced>(
     alloc: Global,
     hall: &mut Hall<'_, D>,
     post: &Post,
+    closes: bool,
     said: &[Said],
     entry: &mut Sealed,
     seals: &mut K,
 ) -> Result<bool, GroupFault>
     requires ready { IsReady D.seen D.may_leave D.unsynced hall.old.serving }
     requires dated { IsOnDay hall.old.today entry.old (K.may_leave seals.old) }
-    ensures group { IfOk result (IsGroup hall.old said.now hall.new) }
+    ensures group { IfOk result (IsGroup closes hall.old said.now hall.new) }
     ensures goes { OnOk result (GoesOn D.seen D.may_leave D.unsynced D.failure_count hall.old.serving hall.new.serving) }
     ensures fails { IfErr result (FailsBy D.seen D.may_leave D.unsynced D.failure_count hall.old.serving hall.new.serving) }
     ensures sealed { OnOk result (IsSealedOn K.named K.may_leave K.kept_may_leave K.failure_count hall.new.today entry.old entry.new seals.old seals.new) }
@@ -47,7 +50,8 @@ pub(crate) fn answer_group<R: Wait, D: Tape, K: Replaced>(
             Err(fault) => return Err(fault),
         }
     }
-    match answer_last(rt, alloc, hall, post, entry, seals) {
+    let is_to_close = both(closes, has_day(said));
+    match answer_closing(rt, alloc, hall, post, is_to_close, entry, seals) {
         Ok(()) => Ok(goes_on),
         Err(fault) => Err(GroupFault::Serve(fault)),
     }

@@ -5,6 +5,7 @@
 
 mod counting;
 mod day;
+mod departing;
 mod group;
 mod notice;
 mod opening;

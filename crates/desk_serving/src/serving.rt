@@ -49,7 +49,7 @@ pub enum HostedFault {
     Seal(DeskFault),
 }
 
-/// Serves eight desks to the manager's end and ends the journal, while the open seal of the lines that the host began with stands in the file
+/// Serves eight desks to the manager's end, closes what departed behind a day of the manager's where that is asked for, and ends the journal, while the open seal of the lines that the host began with stands in the file
 /// `seals`, on the host's day: a later day of the manager's is in it, on its disk, before a line is told under that day. Then the closed seal of all lines takes its place, of this basis, and with the day and the
 /// runs of the open one. Whatever a crash leaves of the two files, the seal has the journal's entry. What the host has come to stands on the board behind each group.
 #[tactic(auto, using(desk_talk::proofs::Closed::still_named, desk_talk::proofs::Closed::ended_named, desk_talk::proofs::Closed::ended_told, desk_talk::proofs::Closed::few_ended, crate::proofs::Daily::on_day, crate::proofs::Daily::stays_still, crate::proofs::Daily::names_on, crate::proofs::Daily::sealed_end, crate::proofs::Daily::of_epoch, crate::proofs::Daily::no_more_behind, crate::proofs::Daily::failed_behind, crate::proofs::Daily::dating_failed, crate::proofs::Daily::no_closed_seal))]
@@ -59,6 +59,7 @@ pub fn serve_desks<R: Wait, D: Tape, K: Replaced>(
     flights: &Flights,
     host: OpenHost<'_, D>,
     post: &Post,
+    closes: bool,
     board: &Board,
     basis: &Basis,
     begun: Sealed,
@@ -71,7 +72,7 @@ pub fn serve_desks<R: Wait, D: Tape, K: Replaced>(
     requires named { NamesAll host.serving.kept (K.may_leave seals.old) }
     requires stands { Stands begun host.serving.kept (K.may_leave seals.old) }
     requires dated { IsDated host.desk.today begun.era }
-    ensures served { IfOk result (λ r. IsServedTo flights.now host.entry.serving host.entry.desk.today host.entry.desk.epoch r.0.journal) }
+    ensures served { IfOk result (λ r. IsServedTo closes flights.now host.entry.serving host.entry.desk.today host.entry.desk.epoch r.0.journal) }
     ensures ended { IfOk result (λ r. IsEnded host.entry.serving.grid host.entry.serving.cap r.0 (D.seen r.1)
         (D.may_leave r.1) (D.unsynced r.1)) }
     ensures front { IfOk result (λ r. Begins host.entry.serving.kept r.0.journal) }
@@ -93,7 +94,9 @@ pub fn serve_desks<R: Wait, D: Tape, K: Replaced>(
     ensures dating { IfErr result (λ f. f.0 ≡ Dating DeskFault.Device → HasFailed K.failure_count seals.old seals.new) }
 {
     let mut entry = begun;
-    let served = match serve_ended(rt, alloc, flights, host, post, board, &mut entry, seals) {
+    let served = match serve_ended(
+        rt, alloc, flights, host, post, closes, board, &mut entry, seals,
+    ) {
         Ok(served) => served,
         Err(refused) => {
             let (fault, tape) = refused;
@@ -132,6 +135,7 @@ fn serve_ended<R: Wait, D: Tape, K: Replaced>(
     flights: &Flights,
     host: OpenHost<'_, D>,
     post: &Post,
+    closes: bool,
     board: &Board,
     entry: &mut Sealed,
     seals: &mut K,
@@ -140,7 +144,7 @@ fn serve_ended<R: Wait, D: Tape, K: Replaced>(
     requires today { IsCenturyDay host.desk.today }
     requires ready { IsReady D.seen D.may_leave D.unsynced host.serving }
     requires dated { IsOnDay host.desk.today entry.old (K.may_leave seals.old) }
-    ensures served { IfOk result (λ r. IsServedTo flights.now host.entry.serving host.entry.desk.today host.entry.desk.epoch r.0.journal) }
+    ensures served { IfOk result (λ r. IsServedTo closes flights.now host.entry.serving host.entry.desk.today host.entry.desk.epoch r.0.journal) }
     ensures ended { IfOk result (λ r. IsEnded host.entry.serving.grid host.entry.serving.cap r.0 (D.seen r.1)
         (D.may_leave r.1) (D.unsynced r.1)) }
     ensures front { IfOk result (λ r. Begins host.entry.serving.kept r.0.journal) }
@@ -158,7 +162,7 @@ fn serve_ended<R: Wait, D: Tape, K: Replaced>(
         Err(tape) => return Err((GroupFault::Serve(ServeFault::Memory), tape)),
     };
     let mut hall = opened;
-    let served = serve(rt, alloc, &mut hall, post, board, entry, seals);
+    let served = serve(rt, alloc, &mut hall, post, closes, board, entry, seals);
     let serving = hall.into_serving();
     match served {
         Ok(()) => match serving.end(rt, alloc) {
@@ -179,13 +183,14 @@ fn serve<R: Wait, D: Tape, K: Replaced>(
     alloc: Global,
     hall: &mut Hall<'_, D>,
     post: &Post,
+    closes: bool,
     board: &Board,
     entry: &mut Sealed,
     seals: &mut K,
 ) -> Result<(), GroupFault>
     requires ready { IsReady D.seen D.may_leave D.unsynced hall.old.serving }
     requires dated { IsOnDay hall.old.today entry.old (K.may_leave seals.old) }
-    ensures served { OnOk result (IsServed hall.old hall.new) }
+    ensures served { OnOk result (IsServed closes hall.old hall.new) }
     ensures goes { OnOk result (GoesOn D.seen D.may_leave D.unsynced D.failure_count hall.old.serving hall.new.serving) }
     ensures fails { IfErr result (FailsBy D.seen D.may_leave D.unsynced D.failure_count hall.old.serving hall.new.serving) }
     ensures sealed { OnOk result (IsSealedOn K.named K.may_leave K.kept_may_leave K.failure_count hall.new.today entry.old entry.new seals.old seals.new) }
@@ -201,7 +206,7 @@ fn serve<R: Wait, D: Tape, K: Replaced>(
     for _ in rt.forever() {
         post.inbox.take(rt, &mut taken, !may_tell(rt, hall, post));
         match answer_counted(
-            rt, alloc, hall, post, &taken, entry, seals, board, &mut tally,
+            rt, alloc, hall, post, closes, &taken, entry, seals, board, &mut tally,
         ) {
             Ok(true) => post.inbox.let_more(rt, &taken, who_is_behind(hall)),
             Ok(false) => return Ok(()),

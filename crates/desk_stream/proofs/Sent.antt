@@ -9,7 +9,7 @@ use Rattle.desk_stream.specs.Laws.{asked_of, AFeedIsItsJournal, IsVeryCall, Live
 use Rattle.desk_stream.specs.Wanting.{asking_of, work_of, IsVery}
 use Rattle.desk_stream.specs.declared.planning.Called.{Called}
 use Rattle.desk_stream.specs.declared.wanted.Wanted.{Wanted}
-use Rattle.desk_stream.specs.declared.wanted.Wanted.TheVariants.{Seats, Limit}
+use Rattle.desk_stream.specs.declared.wanted.Wanted.TheVariants.{Seats, Row}
 use Rattle.seat_journal.specs.declared.entry.Entry.{Entry}
 use Rattle.seat_nesting.specs.Nesting.{Ladders}
 use Rattle.seat_rules.specs.Journal.{calls_of, next_line}
@@ -39,7 +39,7 @@ lived_again_books_nothing flights grid cap past feed cuts journal from count now
 -- what a line asks for is its own very request
 very_own : CommandsAreVeryRequests → (flights : List Flown) (wanted : Wanted) → IsVery flights wanted (work_of flights wanted)
 very_own very flights (Seats wish) = very flights wish
-very_own very flights (Limit change) = refl
+very_own very flights (Row control) = refl
 
 pub own_feed_is_no_stranger : CommandsAreVeryRequests → OwnFeedIsNoStranger
 own_feed_is_no_stranger very flights grid cap past feed cuts journal from count now rest c more sent is next strange =

@@ -1,14 +1,15 @@
 -- What numbered lines ask for is right.
-use Rattle.std.proofs.Common.{◌≡◌, ℕ, ◌≤◌, List, refl, ap}
+use Rattle.std.proofs.Common.{◌≡◌, ◌∙◌, ℕ, ◌≤◌, List, refl, ap}
 use Rattle.airimp_lines.specs.declared.requests.Request.{Request}
 use Rattle.desk_answers.specs.Saying.{asked_by}
 use Rattle.desk_answers.proofs.Wishes.{right_request}
-use Rattle.desk_hall.proofs.Ordered.{limit_right}
+use Rattle.desk_hall.proofs.Ordered.{row_right}
 use Rattle.desk_stream.specs.Wanting.{IsRightWanted}
-use Rattle.desk_stream.specs.declared.wanted.Wanted.TheVariants.{Seats, Limit}
+use Rattle.desk_stream.specs.declared.wanted.Wanted.TheVariants.{Seats, Row}
 use Rattle.seat_desk.specs.Loading.{IsGridOf}
-use Rattle.seat_journal.specs.declared.entry.Change.{Change}
-use Rattle.seat_journal.specs.declared.entry.Work.TheVariants as works
+use Rattle.seat_journal.specs.Controls.{set_by}
+use Rattle.seat_journal.specs.declared.entry.Control.{Control}
+use Rattle.seat_journal.specs.declared.entry.Work.{Work}
 use Rattle.seat_nesting.specs.Nesting.{Ladders}
 use Rattle.seat_serving.specs.Answering.{IsRight}
 use Rattle.seat_serving.specs.declared.asked.Asked.{Asked}
@@ -19,11 +20,11 @@ pub seats_right : (served : List Flown) (grid : Ladders) (session : ℕ) (wish :
 seats_right served grid session wish asked on right high is =
     right_request served served grid session wish asked on refl right.1 right.0 high is
 
-abbrev limit_by : Change → ℕ → Asked
-limit_by change s = record { session = s; work = works.Limit change }
+abbrev asked_as : ℕ → Work → Asked
+asked_as s work = record { session = s; work = work }
 
-pub limit_wanted : (served : List Flown) (grid : Ladders) (session : ℕ) (change : Change) → IsGridOf served grid
-    → IsRightWanted served session (Limit change) → IsRight grid (record { session = session; work = works.Limit change })
-limit_wanted served grid session change on right =
-    limit_right served grid change (record { session = session; work = works.Limit change }) on right.1
-    (ap (limit_by change) right.0)
+pub row_wanted : (served : List Flown) (grid : Ladders) (session : ℕ) (control : Control) (work : Work) → IsGridOf served grid
+    → IsRightWanted served session (Row control) → work ≡ set_by control → IsRight grid (record { session = session; work = work })
+row_wanted served grid session control work on right is =
+    row_right served grid control (record { session = session; work = work }) on right.1
+    (ap (λ (s : ℕ). asked_as s work) right.0 ∙ ap (asked_as 0) is)

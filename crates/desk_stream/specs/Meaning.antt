@@ -12,7 +12,7 @@ use Rattle.desk_lines.specs.declared.desk.Wrong.TheVariants.{Word}
 use Rattle.desk_stream.specs.Wanting.{IsRightWanted}
 use Rattle.desk_stream.specs.declared.meant.Meant.{Meant}
 use Rattle.desk_stream.specs.declared.meant.Meant.TheVariants.{Called, Said}
-use Rattle.desk_stream.specs.declared.wanted.Wanted.TheVariants.{Seats, Limit}
+use Rattle.desk_stream.specs.declared.wanted.Wanted.TheVariants.{Seats, Row}
 use Rattle.ssim_flights.specs.declared.flight.Flight.{Flight as Flown}
 
 -- no line of a feed
@@ -27,11 +27,11 @@ meant_by session desk meaning = Said (Quiet session desk meaning)
 
 -- of the manager: a row has a number, a day is a word of the feed, and an end is none
 abbrev pub ordered : Desk → Order → Meant
-ordered manager (orders.LimitCall number change) = Called number (Limit change)
+ordered manager (orders.RowCall number control) = Called number (Row control)
 ordered manager (orders.Said meaning) = Said (Quiet 0 manager meaning)
 ordered manager (orders.Refused fault) = Said (Refused fault manager.lines)
 ordered manager (orders.RefusedCall number fault) = Said (RefusedCall fault number)
-ordered manager (orders.Limit change) = unnumbered 0 manager
+ordered manager (orders.Row control) = unnumbered 0 manager
 ordered manager (orders.Day day) = unnumbered 0 manager
 ordered manager orders.Stop = unnumbered 0 manager
 

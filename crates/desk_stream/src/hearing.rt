@@ -15,12 +15,12 @@ use crate::meant::{Meant, meant_by, ordered};
 use crate::planning::{Called, Plan, plan_of};
 use crate::reading::Step;
 use crate::telling::FeedTurn;
-use airline_base::{Day, Memory};
+use airline_base::{Class, Day, Memory};
 use desk_feed::Progress;
 use desk_hall::order_of;
 use desk_lines::Desk;
 use seat_disk::Tape;
-use seat_journal::Work;
+use seat_journal::{SaleChange, Work};
 use seat_serving::{Asked, Serving};
 use ssim_flights::{Flights, Served};
 use std::alloc::Global;
@@ -188,7 +188,7 @@ fn meant_of(
     ensures manager { OnErr result (session ≡ 0) }
 {
     if session == 0 {
-        let order = order_of(alloc, served, desk, line, false)?;
+        let order = order_of(alloc, flights, served, desk, line, false)?;
         return Ok(ordered(served, desk, order));
     }
     let meaning = desk.hear(line);
@@ -385,8 +385,10 @@ fn add_asked(asked: &mut Vec<Asked>, more: Option<Asked>) -> Result<(), Memory>
 {
     match more {
         Some(one) => {
-            // For the prover alone: it is told where this type is.
+            // For the prover alone: it is told where these types are.
             let _work: Work = one.work;
+            let _sale: Option<SaleChange> = None;
+            let _class: Option<Class> = None;
             push(asked, one)
         }
         None => Ok(()),

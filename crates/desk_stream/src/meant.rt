@@ -40,11 +40,11 @@ pub(crate) fn ordered(served: &Served<'_>, manager: &Desk, order: Order) -> Mean
     ensures right { IsRightMeant served.now 0 result }
 {
     match order {
-        Order::LimitCall(number, change) => Meant::Called(number, Wanted::Limit(change)),
+        Order::RowCall(number, control) => Meant::Called(number, Wanted::Row(control)),
         Order::Said(meaning) => Meant::Said(Turn::Quiet(0, *manager, meaning)),
         Order::Refused(fault) => Meant::Said(Turn::Refused(fault, manager.lines)),
         Order::RefusedCall(number, fault) => Meant::Said(Turn::RefusedCall(fault, number)),
-        Order::Limit(_) => unnumbered(0, manager),
+        Order::Row(_) => unnumbered(0, manager),
         Order::Day(_) => unnumbered(0, manager),
         Order::Stop => unnumbered(0, manager),
     }

@@ -1,4 +1,4 @@
-//! What a numbered line asks for: seats, or another limit.
+//! What a numbered line asks for: seats, or what a row of the manager sets.
 ghost use Rattle.std.specs.Prelude.{◌≡◌, ◌↔◌, ◌≤◌, IsTrue};
 ghost use Rattle.seat_desk.specs.Loading.{IsGridOf};
 ghost use Rattle.seat_serving.specs.Answering.{IsRight};
@@ -8,7 +8,7 @@ use airimp_lines::Request;
 use desk_answers::asked_by;
 use desk_hall::{Turn, sets};
 use seat_disk::Tape;
-use seat_journal::{Change, Work};
+use seat_journal::{Control, Work};
 use seat_replies::is_very_request;
 use seat_serving::{Asked, Serving};
 use ssim_flights::{Flights, Served};
@@ -18,12 +18,12 @@ use ssim_flights::{Flights, Served};
 pub enum Wanted {
     /// Seats, which a session asks for.
     Seats(Request),
-    /// Another limit, which the manager sets.
-    Limit(Change),
+    /// What the manager sets.
+    Row(Control),
 }
 
 /// What it asks of the inventory.
-#[tactic(auto, using(crate::proofs::Wants::seats_right, crate::proofs::Wants::limit_wanted))]
+#[tactic(auto, using(crate::proofs::Wants::seats_right, crate::proofs::Wants::row_wanted))]
 pub(crate) fn asked_for<D: Tape>(
     served: &Served<'_>,
     serving: &Serving<D>,
@@ -38,9 +38,9 @@ pub(crate) fn asked_for<D: Tape>(
 {
     match wanted {
         Wanted::Seats(wish) => asked_by(served, session, wish),
-        Wanted::Limit(change) => Asked {
+        Wanted::Row(control) => Asked {
             session,
-            work: Work::Limit(*change),
+            work: control.work(),
         },
     }
 }
@@ -51,7 +51,7 @@ pub(crate) fn is_very(flights: &Flights, wanted: &Wanted, work: Work) -> bool
 {
     match wanted {
         Wanted::Seats(wish) => is_very_request(flights, wish, work),
-        Wanted::Limit(change) => sets(change, work),
+        Wanted::Row(control) => sets(control, work),
     }
 }
 
@@ -61,6 +61,6 @@ pub(crate) fn repeat_of(session: u8, number: u32, wanted: &Wanted) -> Turn
 {
     match wanted {
         Wanted::Seats(wish) => Turn::Repeated(session, number, *wish),
-        Wanted::Limit(change) => Turn::RepeatedRow(number, *change),
+        Wanted::Row(control) => Turn::RepeatedRow(number, *control),
     }
 }

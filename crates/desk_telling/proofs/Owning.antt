@@ -8,7 +8,7 @@ use Rattle.seat_journal.specs.declared.entry.Advice.{Advice}
 use Rattle.seat_journal.specs.declared.entry.Command.{Command}
 use Rattle.seat_journal.specs.declared.entry.Entry.{Entry}
 use Rattle.seat_journal.specs.declared.entry.Work.{Work}
-use Rattle.seat_journal.specs.declared.entry.Work.TheVariants.{Seats, Limit}
+use Rattle.seat_journal.specs.declared.entry.Work.TheVariants.{Seats, Limit, Sale}
 use Rattle.desk_telling.specs.Laws.{IsOwn, IsOwnBooking}
 use Rattle.desk_telling.specs.Telling.{AreTold, Advised, Replied, Telling, advice_told, advice_to, advices_told, asked_by, command_in, line_numbered, made_by, reply_told, told_behind, told_of, told_of_each}
 use Rattle.desk_telling.proofs.Tellings.{told_both}
@@ -29,6 +29,7 @@ own_reply journal desk e = own_reply_by (e.session == desk) refl where
 asked_in : (w : Work) (c : Command) → command_in w ≡ Some c → w ≡ Seats c
 asked_in (Seats d) c is = cc
 asked_in (Limit d) c is = absurd cc
+asked_in (Sale d) c is = absurd cc
 
 own_line : (journal : List Entry) (desk : ℕ) (a : Advice) (c : Command) (line : Entry)
     → line_numbered journal a.number ≡ Some line → asked_by desk (Some line) ≡ Some c → IsOwnBooking journal desk a c

@@ -7,8 +7,9 @@ use Rattle.ssim_flights.specs.declared.flight.Flight.{Flight as Flown}
 use Rattle.seat_journal.specs.declared.entry.Change.{Change}
 use Rattle.seat_journal.specs.declared.entry.Command.{Command}
 use Rattle.seat_journal.specs.declared.entry.Entry.{Entry}
+use Rattle.seat_journal.specs.declared.entry.SaleChange.{SaleChange}
 use Rattle.desk_telling.specs.Segments.{segment_of}
-use Rattle.desk_telling.specs.Telling.{IsBehind, IsLegName, IsLegOn, IsLimitLine, IsSeatsLine, IsSegmentText, limit_text, told_head}
+use Rattle.desk_telling.specs.Telling.{IsBehind, IsLegName, IsLegOn, IsLimitLine, IsSaleLine, IsSeatsLine, IsSegmentText, limit_text, sale_text, told_head}
 use Rattle.std.specs.Prelude.{slice_get}
 
 pub seats_line : (flights : List Flown) (desk : ℕ) (e : Entry) (c : Command) (code : List ℕ) (seats : ℕ)
@@ -25,6 +26,18 @@ pub limit_line : (flights : List Flown) (desk : ℕ) (e : Entry) (c : Change) (n
     → spaced ≡ named ++ 32 ∷ [] → limited ≡ spaced ++ limit_text e c → line ≡ limited ++ 10 ∷ []
     → IsLimitLine flights desk e c line
 limit_line flights desk e c none head named spaced limited line e0 e1 put e3 e4 e5 =
+    let begun : head ≡ told_head desk e = e1 ∙ ap (λ (l : List ℕ). l ++ told_head desk e) e0 in
+    record {
+      leg = put.part;
+      is_leg = put.is_part;
+      written = rw (e5, e4, e3, put.written, begun) refl;
+    }
+
+pub sale_line : (flights : List Flown) (desk : ℕ) (e : Entry) (c : SaleChange) (none head named spaced said line : List ℕ)
+    → none ≡ [] → head ≡ none ++ told_head desk e → IsBehind (IsLegOn (slice_get flights c.flight) c.leg) head named
+    → spaced ≡ named ++ 32 ∷ [] → said ≡ spaced ++ sale_text e c → line ≡ said ++ 10 ∷ []
+    → IsSaleLine flights desk e c line
+sale_line flights desk e c none head named spaced said line e0 e1 put e3 e4 e5 =
     let begun : head ≡ told_head desk e = e1 ∙ ap (λ (l : List ℕ). l ++ told_head desk e) e0 in
     record {
       leg = put.part;

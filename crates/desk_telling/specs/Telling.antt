@@ -1,5 +1,5 @@
 -- What a desk is told of a journal: which replies and advices, and the line of each.
-use Rattle.std.specs.Prelude.{◌≡◌, ◌==◌, ℕ, zero, suc, List, [], ◌∷◌, ◌++◌, drop, decimal, codes, Option, Some, None, slice_get, if◌then◌else◌}
+use Rattle.std.specs.Prelude.{◌≡◌, ◌==◌, ℕ, zero, suc, Bool, true, false, List, [], ◌∷◌, ◌++◌, drop, decimal, codes, Option, Some, None, slice_get, if◌then◌else◌}
 use Rattle.std.specs.List.{flat_map}
 use Rattle.airline_base.specs.Days.{IsDateText}
 use Rattle.airline_base.specs.Fields.{suffix_text}
@@ -11,8 +11,10 @@ use Rattle.seat_journal.specs.declared.entry.Advice.{Advice}
 use Rattle.seat_journal.specs.declared.entry.Change.{Change}
 use Rattle.seat_journal.specs.declared.entry.Command.{Command}
 use Rattle.seat_journal.specs.declared.entry.Entry.{Entry}
+use Rattle.seat_journal.specs.declared.entry.SaleChange.{SaleChange}
 use Rattle.seat_journal.specs.declared.entry.Work.{Work}
-use Rattle.seat_journal.specs.declared.entry.Work.TheVariants.{Seats, Limit}
+use Rattle.seat_journal.specs.declared.entry.Work.TheVariants.{Seats, Limit, Sale}
+use Rattle.seat_journal.specs.Text.{scope_letter}
 use Rattle.desk_telling.specs.Segments.{segment_of}
 
 -- ---- which
@@ -30,6 +32,7 @@ line_numbered journal (suc n) = slice_get journal n
 abbrev pub command_in : Work → Option Command
 command_in (Seats c) = Some c
 command_in (Limit c) = None
+command_in (Sale c) = None
 
 -- what a line asked for, if it is of the desk's session and asked for seats
 abbrev pub asked_by : ℕ → Option Entry → Option Command
@@ -111,10 +114,26 @@ pub record IsLimitLine (flights : List Flown) (desk : ℕ) (e : Entry) (c : Chan
   pub is_leg : IsLegOn (slice_get flights c.flight) c.leg leg
   pub written : line ≡ told_head desk e ++ leg ++ codes " " ++ limit_text e c ++ 10 ∷ []
 
+-- what is done to a class
+abbrev pub sale_word : Bool → List ℕ
+sale_word true = codes "CLOSE"
+sale_word false = codes "OPEN"
+
+-- CLASS CLOSE REPLY, or OPEN; `*` stands for all classes
+abbrev pub sale_text : Entry → SaleChange → List ℕ
+sale_text e c = (scope_letter c.class ∷ []) ++ codes " " ++ sale_word c.closed ++ codes " " ++ e.reply
+
+-- DESK NUMBER LEG CLASS CLOSE REPLY, or OPEN
+pub record IsSaleLine (flights : List Flown) (desk : ℕ) (e : Entry) (c : SaleChange) (line : List ℕ) : Type 0 where
+  pub leg : List ℕ
+  pub is_leg : IsLegOn (slice_get flights c.flight) c.leg leg
+  pub written : line ≡ told_head desk e ++ leg ++ codes " " ++ sale_text e c ++ 10 ∷ []
+
 -- the reply to what a line asked for
 abbrev pub IsReplyLine : List Flown → ℕ → Entry → Work → List ℕ → Type 0
 IsReplyLine flights desk e (Seats c) line = IsSeatsLine flights desk e c e.reply c.seats line
 IsReplyLine flights desk e (Limit c) line = IsLimitLine flights desk e c line
+IsReplyLine flights desk e (Sale c) line = IsSaleLine flights desk e c line
 
 -- an advice has KL and its seats, with the locator and the segment of its booking
 abbrev pub IsTold : List Flown → ℕ → Telling → List ℕ → Type 0

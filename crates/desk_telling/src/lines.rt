@@ -2,15 +2,16 @@
 //! It knows how a line is spelled, and nothing of which lines a desk is told.
 ghost use Rattle.std.specs.Prelude.{◌≡◌, ◌+◌, ◌≤◌, ◌++◌, codes, decimal, length, slice_get};
 ghost use Rattle.airline_base.specs.Fields.{suffix_text};
+ghost use Rattle.seat_journal.specs.Text.{scope_letter};
 ghost use Rattle.desk_telling.specs.Segments.{segment_of};
-ghost use Rattle.desk_telling.specs.Telling.{IsBehind, IsLegName, IsLegOf, IsLegOn, IsLimitLine, IsReplyLine, IsSeatsLine, IsSegmentText, limit_text, told_head};
+ghost use Rattle.desk_telling.specs.Telling.{IsBehind, IsLegName, IsLegOf, IsLegOn, IsLimitLine, IsReplyLine, IsSaleLine, IsSeatsLine, IsSegmentText, limit_text, sale_text, sale_word, told_head};
 
 use crate::segment::segment_of;
 use airimp_lines::reply_text;
-use airline_base::Code;
 use airline_base::spelling::{put, put_number};
+use airline_base::{Class, Code};
 use arrayvec::ArrayVec;
-use seat_journal::{Change, Command, Entry, Work};
+use seat_journal::{Change, Command, Entry, SaleChange, Work};
 use ssim_flights::{DatedLeg, Flight, Flights};
 
 /// A line: two numbers, a locator, a segment of at most 48 bytes, blanks and LF.
@@ -26,6 +27,7 @@ pub(crate) fn reply_line(flights: &Flights, desk: u8, entry: &Entry) -> Line
             seats_line(flights, desk, entry, &command, entry.reply, seats)
         }
         Work::Limit(change) => limit_line(flights, desk, entry, &change),
+        Work::Sale(change) => sale_line(flights, desk, entry, &change),
     }
 }
 
@@ -60,9 +62,23 @@ fn limit_line(flights: &Flights, desk: u8, entry: &Entry, change: &Change) -> Li
 {
     let mut line = ArrayVec::new();
     put_head(&mut line, desk, entry);
-    put_leg(&mut line, flights, change);
+    put_leg(&mut line, flights, change.flight, change.leg);
     put(&mut line, b" ");
     put_limit(&mut line, entry, change);
+    put(&mut line, b"\n");
+    line
+}
+
+/// The line with the leg on which a class is closed or opened, the class, and the reply.
+#[tactic(auto, using(crate::proofs::Spelling::sale_line))]
+fn sale_line(flights: &Flights, desk: u8, entry: &Entry, change: &SaleChange) -> Line
+    ensures { IsSaleLine flights.now desk entry.now change.now result.items }
+{
+    let mut line = ArrayVec::new();
+    put_head(&mut line, desk, entry);
+    put_leg(&mut line, flights, change.flight, change.leg);
+    put(&mut line, b" ");
+    put_sale(&mut line, entry, change);
     put(&mut line, b"\n");
     line
 }
@@ -106,14 +122,14 @@ fn no_segment_text(code: Code, seats: u16) -> ArrayVec<u8, 48>
     text
 }
 
-/// The leg of a change, by the names of its flight.
-fn put_leg(line: &mut Line, flights: &Flights, change: &Change)
+/// A leg, by the names of its flight.
+fn put_leg(line: &mut Line, flights: &Flights, flight: u32, leg: u8)
     requires room { length line.old.items + 32 ≤ 96 }
-    ensures text { IsBehind (IsLegOn (slice_get flights.now change.now.flight) change.now.leg) line.old.items line.new.items }
+    ensures text { IsBehind (IsLegOn (slice_get flights.now flight) leg) line.old.items line.new.items }
     ensures len { length line.new.items ≤ length line.old.items + 32 }
 {
-    if change.flight < flights.len() {
-        put_leg_of(line, flights.flight(change.flight), change.leg);
+    if flight < flights.len() {
+        put_leg_of(line, flights.flight(flight), leg);
     } else {
         put_no_leg(line);
     }
@@ -176,4 +192,34 @@ fn put_limit(line: &mut Line, entry: &Entry, change: &Change)
     put_number(line, change.wait as u32);
     put(line, b" ");
     put(line, &entry.reply.letters());
+}
+
+/// A class or a star, a word, a code and two blanks.
+fn put_sale(line: &mut Line, entry: &Entry, change: &SaleChange)
+    requires room { length line.old.items + 10 ≤ 96 }
+    ensures text { line.new.items ≡ line.old.items ++ sale_text entry.now change.now }
+    ensures len { length line.new.items ≤ length line.old.items + 10 }
+{
+    put(line, &[scope_letter(change.class)]);
+    put(line, b" ");
+    put(line, sale_word(change.closed));
+    put(line, b" ");
+    put(line, &entry.reply.letters());
+}
+
+/// The class, or `*` for all.
+fn scope_letter(class: Option<Class>) -> u8
+    ensures { result ≡ scope_letter class }
+{
+    match class {
+        Some(class) => class.letter(),
+        None => b'*',
+    }
+}
+
+fn sale_word(closed: bool) -> &'static [u8]
+    ensures value { result.now ≡ sale_word closed }
+    ensures short { length result.now ≤ 5 }
+{
+    if closed { b"CLOSE" } else { b"OPEN" }
 }

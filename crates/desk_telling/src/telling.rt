@@ -186,5 +186,6 @@ fn command_in(work: &Work) -> Option<Command>
     match work {
         Work::Seats(command) => Some(*command),
         Work::Limit(_) => None,
+        Work::Sale(_) => None,
     }
 }

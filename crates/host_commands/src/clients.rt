@@ -23,6 +23,9 @@ pub fn clients_named<'a>(
     rt: &HostRuntime,
     asked: &Open<'a, '_>,
 ) -> Result<Clients<Fed>, Refusal<'a>> {
+    if asked.closes_departed && asked.manager.is_none() {
+        return Err(Refusal::unfit("--close-departed", "Needs a manager, who gives the days"));
+    }
     if let Some(fed) = feed_asked(asked)? {
         return Ok(Clients::Feed(fed));
     }

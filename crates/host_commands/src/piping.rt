@@ -43,6 +43,8 @@ pub struct Pipes {
     marked: File,
     /// How often the host says its status.
     every: Duration,
+    /// Whether a later day of the manager's closes what departed before it.
+    pub closes_departed: bool,
     /// Where it says it, if it does.
     pub status: Option<Status>,
 }
@@ -69,7 +71,7 @@ pub fn desks_named<'a>(
         }
         return Err(Refusal::unfit("--manager", "Is missing, whom desks on pipes need"));
     };
-    pipes_named(rt, asked.desks, manager, every)
+    pipes_named(rt, asked.desks, manager, every, asked.closes_departed)
 }
 
 /// A desk on standard input and standard output has no status beside it.
@@ -86,6 +88,7 @@ fn pipes_named<'a>(
     desks: &[&'a str],
     manager: &'a str,
     every: Duration,
+    closes_departed: bool,
 ) -> Result<Option<Pipes>, Refusal<'a>> {
     let Some(count) = sessions_named(desks) else {
         return Err(misnamed(desks));
@@ -109,6 +112,7 @@ fn pipes_named<'a>(
         mark: Mark::of(drawn),
         marked,
         every,
+        closes_departed,
         status: None,
     }))
 }
@@ -222,6 +226,7 @@ pub fn started<R: Threads + Wait + Clock + Copy + Send + 'static>(
         marked,
         every,
         status,
+        closes_departed: _,
     } = pipes;
     let board = Arc::new(alloc, Board::new(desks_of(&pairs)))?;
     if let Some(status) = status {

@@ -66,6 +66,7 @@ pub struct Open<'a, 'b> {
     pub every: Option<&'a str>,
     pub feed: Option<&'a str>,
     pub behind: Option<&'a str>,
+    pub closes_departed: bool,
 }
 
 /// Goes on with a journal beside its seal, or begins it, answers a desk up to the end of its input, or desks up to the manager's end, and
@@ -124,6 +125,7 @@ fn asked_by<'a, 'b>(job: &'b ServeJob<'a>) -> Open<'a, 'b> {
         every: job.every,
         feed: job.feed,
         behind: job.behind,
+        closes_departed: job.closes_departed,
     }
 }
 
@@ -443,6 +445,7 @@ fn desks_served<R: Threads + Wait + Clock + Copy + Send + 'static, D: Tape + Dro
     requires stands { Stands sealed host.serving.kept (K.may_leave seals.old) }
     requires dated { IsDated host.desk.today sealed.era }
 {
+    let closes = pipes.closes_departed;
     let outlook = Outlook::new(host.today(), host.serving().journal().len() as u32);
     let Ok(gallery) = Gallery::new(season, viewers) else {
         return Err((NO_MEMORY, host.into_serving().close(waits)));
@@ -456,6 +459,7 @@ fn desks_served<R: Threads + Wait + Clock + Copy + Send + 'static, D: Tape + Dro
         season.flights(),
         host,
         &shared.post,
+        closes,
         &shared.board,
         basis,
         sealed,

@@ -129,7 +129,7 @@ run_app = with_rule (with_rule (with_rule (with_rule (with_rule (with_rule (with
     (optional_values (codes "scripts"))
 
 unfoldable pub serve_app : App
-serve_app = with_rule (with_rule (with_rule (with_rule (with_rule (with_rule (with_rule (with_rule (horizon_app (codes "serve"))
+serve_app = with_rule (with_rule (with_rule (with_rule (with_rule (with_rule (with_rule (with_rule (with_rule (horizon_app (codes "serve"))
     (optional (codes "today")))
     (required_option (codes "journal")))
     (optional_several (codes "desk")))
@@ -137,7 +137,8 @@ serve_app = with_rule (with_rule (with_rule (with_rule (with_rule (with_rule (wi
     (optional (codes "status")))
     (optional (codes "every")))
     (optional (codes "feed")))
-    (optional (codes "behind"))
+    (optional (codes "behind")))
+    (flag (codes "close-departed"))
 
 unfoldable pub bookings_app : App
 bookings_app = with_rule (with_rule (with_rule (with_rule (with_rule (with_rule (with_rule (horizon_app (codes "bookings"))

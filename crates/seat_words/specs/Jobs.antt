@@ -119,6 +119,7 @@ IsServe rows asked = IsOver rows asked.over
     × MayHave rows (codes "every") (option_map (λ text. text.now) asked.every)
     × MayHave rows (codes "feed") (option_map (λ text. text.now) asked.feed)
     × MayHave rows (codes "behind") (option_map (λ text. text.now) asked.behind)
+    × HasFlag rows (codes "close-departed") asked.closes_departed
 
 abbrev pub IsBookings : List Row → BookingsJob → Type 0
 IsBookings rows asked = IsOver rows asked.over

@@ -238,7 +238,7 @@ pub fn examples_are_read()
         ∷ (codes "first", codes "2024-07-01" ∷ []) ∷ (codes "days", codes "31" ∷ [])
         ∷ (codes "today", codes "2024-06-20" ∷ []) ∷ (codes "journal", codes "journal.txt" ∷ [])
         ∷ (codes "desk", codes "-" ∷ [])
-        ∷ (codes "verbose", codes "false" ∷ []) ∷ (codes "quiet", codes "false" ∷ []) ∷ []) }
+        ∷ (codes "close-departed", codes "false" ∷ []) ∷ (codes "verbose", codes "false" ∷ []) ∷ (codes "quiet", codes "false" ∷ []) ∷ []) }
     ensures pipes { IsReadTo
         (codes "seatdesk serve --set examples/summer.ssim --limits examples/limits.txt --first 2024-07-01 --days 31 --today 2024-06-20 --journal journal.txt --desk 1=london.in:london.out --desk 2=lisbon.in:lisbon.out --manager m.in:m.out")
         (codes "serve")
@@ -247,7 +247,7 @@ pub fn examples_are_read()
         ∷ (codes "today", codes "2024-06-20" ∷ []) ∷ (codes "journal", codes "journal.txt" ∷ [])
         ∷ (codes "desk", codes "1=london.in:london.out" ∷ codes "2=lisbon.in:lisbon.out" ∷ [])
         ∷ (codes "manager", codes "m.in:m.out" ∷ [])
-        ∷ (codes "verbose", codes "false" ∷ []) ∷ (codes "quiet", codes "false" ∷ []) ∷ []) }
+        ∷ (codes "close-departed", codes "false" ∷ []) ∷ (codes "verbose", codes "false" ∷ []) ∷ (codes "quiet", codes "false" ∷ []) ∷ []) }
     ensures feed { IsReadTo
         (codes "seatdesk serve --set examples/summer.ssim --limits examples/limits.txt --first 2024-07-01 --days 31 --journal journal.txt --feed -")
         (codes "serve")
@@ -255,7 +255,7 @@ pub fn examples_are_read()
         ∷ (codes "first", codes "2024-07-01" ∷ []) ∷ (codes "days", codes "31" ∷ [])
         ∷ (codes "journal", codes "journal.txt" ∷ [])
         ∷ (codes "feed", codes "-" ∷ [])
-        ∷ (codes "verbose", codes "false" ∷ []) ∷ (codes "quiet", codes "false" ∷ []) ∷ []) }
+        ∷ (codes "close-departed", codes "false" ∷ []) ∷ (codes "verbose", codes "false" ∷ []) ∷ (codes "quiet", codes "false" ∷ []) ∷ []) }
     ensures recover { IsReadTo
         (codes "seatdesk recover --set examples/summer.ssim --limits examples/limits.txt --first 2024-07-01 --days 31 journal.txt")
         (codes "recover")

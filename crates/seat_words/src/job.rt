@@ -55,7 +55,7 @@ pub enum Job<'a> {
     /// [--refused FILE] [--no-clobber] [--again] [SCRIPT...]`
     Run(RunJob<'a>),
     /// `seatdesk serve` over a horizon `[--today DATE] --journal JOURNAL [--desk DESK]... [--manager PIPES] [--status FILE]
-    /// [--every SECONDS] [--feed FEED] [--behind N]`
+    /// [--every SECONDS] [--feed FEED] [--behind N] [--close-departed]`
     Serve(ServeJob<'a>),
     /// `seatdesk bookings` over a horizon `[--locator LOCATOR]... [--flight FLIGHT] [--day DATE] [--csv] [--json] [--open] JOURNAL`
     Bookings(BookingsJob<'a>),
@@ -180,6 +180,8 @@ pub struct ServeJob<'a> {
     /// Where one stream of lines for all desks comes from.
     pub feed: Option<&'a str>,
     pub behind: Option<&'a str>,
+    /// Closes what departed before a day of the manager's.
+    pub closes_departed: bool,
 }
 
 /// What `seatdesk bookings` asks for.
@@ -557,6 +559,7 @@ fn serve_asked<'a>(alloc: Global, matches: &ArgMatches<'a>) -> Result<ServeJob<'
         every: may_value_of(matches, "every"),
         feed: may_value_of(matches, "feed"),
         behind: may_value_of(matches, "behind"),
+        closes_departed: flag_of(matches, "close-departed"),
     })
 }
 

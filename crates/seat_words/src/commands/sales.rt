@@ -29,6 +29,9 @@ const FEED_HELP: &str =
 const FED_HELP: &str =
     "How many lines the journal had where the feed begins, 0 to 999999; 0 where nothing is said";
 
+const CLOSE_DEPARTED_HELP: &str =
+    "Closes each leg that departed before a day that the manager gives by ?DAY; without it nothing is closed but by the manager's rows";
+
 const EVERY_HELP: &str = "How often that is said, 1 to 3600 seconds; 60 where nothing is said";
 
 const OUT_HELP: &str =
@@ -94,6 +97,7 @@ const SERVE: &[Argument] = &[
     Optional("every", "SECONDS", EVERY_HELP),
     Optional("feed", "FEED", FEED_HELP),
     Optional("behind", "N", FED_HELP),
+    Flag("close-departed", CLOSE_DEPARTED_HELP),
 ];
 
 pub(super) fn serve_command<'a>(alloc: Global) -> Result<Command<'a>, AllocError>

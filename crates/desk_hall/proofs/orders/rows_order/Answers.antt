@@ -1,6 +1,6 @@
 use Rattle.std.proofs.Common.{◌≡◌, ◌<◌, ◌∷◌, [], Some, arith, get_or, length, rules}
 use Rattle.desk_hall.proofs.Rows.{only_row, row_right}
-use Rattle.seat_replies.specs.Changes.{change_of}
+use Rattle.desk_hall.specs.OneLeg.{control_of}
 use Rattle.desk_hall.proofs.orders.rows_order.Goals as goal
 
 pub returns-in-Some-clause-right : goal.returns-in-Some-clause-right
@@ -9,5 +9,5 @@ returns-in-Some-clause-right c =
     let few : length c.args.rows.now < 2 = omega (arith, c.in-len1.len_below) in
     let here : c.row-item.result ≡ get_or c.args.rows.now 0 c.row-item.result = search rules in
     let is : c.args.rows.now ≡ c.row-item.result ∷ [] = only_row c.args.rows.now c.row-item.result here some few in
-    let at : change_of c.args.served.now c.row-item.result ≡ Some c.in-Some.change = search rules in
-    row_right c.args.served.now c.args.text.now c.args.rows.now c.row-item.result c.in-Some.change c.requires.rows is at
+    let at : control_of c.args.served.now c.row-item.result ≡ Some c.in-Some.control = search rules in
+    row_right c.args.served.now c.args.text.now c.args.rows.now c.row-item.result c.in-Some.control c.requires.rows is at

@@ -28,9 +28,9 @@ loop-preserved g c = (
       c.answer_counted.new.hall.today c.args.entry.now c.loop.entry c.answer_counted.new.entry c.args.seals.now c.loop.seals
       c.answer_counted.new.seals c.loop.invariant.1 c.in-Ok-true.ensures.sealed,
   c.in-Ok-true.ensures.counts,
-  group_more c.args.hall.now c.loop.hall c.answer_counted.new.hall _ _ c.loop.invariant.3 c.in-Ok-true.ensures.group (search rules),
+  group_more c.args.closes c.args.hall.now c.loop.hall c.answer_counted.new.hall _ _ c.loop.invariant.3 c.in-Ok-true.ensures.group (search rules),
 )
 
 pub returns-in-Ok-false-clause-served : goal.returns-in-Ok-false-clause-served
 returns-in-Ok-false-clause-served g c =
-    is_served c.args.hall.now c.loop.hall c.answer_counted.new.hall _ _ c.loop.invariant.3 c.in-Ok-false.ensures.group (search rules)
+    is_served c.args.closes c.args.hall.now c.loop.hall c.answer_counted.new.hall _ _ c.loop.invariant.3 c.in-Ok-false.ensures.group (search rules)

@@ -21,5 +21,5 @@ returns-in-Err-served-clause-told g c =
 
 pub returns-in-Ok-end-clause-served : goal.returns-in-Ok-end-clause-served
 returns-in-Ok-end-clause-served g c =
-    served_to c.args.flights.now c.args.host.serving c.into_serving-serving.result c.args.host.desk.today c.args.host.desk.epoch c.in-Ok.opened
+    served_to c.args.closes c.args.flights.now c.args.host.serving c.into_serving-serving.result c.args.host.desk.today c.args.host.desk.epoch c.in-Ok.opened
     c.serve-served.new.hall c.in-Ok-end.ended.0.journal c.in-Ok.ensures.over c.in-Ok-served.ensures.served (search rules) c.in-Ok-end.ensures.journal

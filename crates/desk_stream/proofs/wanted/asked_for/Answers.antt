@@ -1,7 +1,7 @@
 use Rattle.std.proofs.Common.{subst}
 use Rattle.desk_stream.specs.Wanting.{IsRightWanted}
 use Rattle.desk_stream.specs.declared.wanted.Wanted.{Wanted}
-use Rattle.desk_stream.proofs.Wants.{limit_wanted, seats_right}
+use Rattle.desk_stream.proofs.Wants.{row_wanted, seats_right}
 use Rattle.desk_stream.proofs.wanted.asked_for.Goals as goal
 
 pub returns-in-Seats-clause-right : goal.returns-in-Seats-clause-right
@@ -10,7 +10,8 @@ returns-in-Seats-clause-right g c =
     (subst (λ (w : Wanted). IsRightWanted c.args.served.now c.args.session w) c.in-Seats.is c.requires.right)
     c.requires.session c.asked_by.ensures
 
-pub returns-in-Limit-clause-right : goal.returns-in-Limit-clause-right
-returns-in-Limit-clause-right g c =
-    limit_wanted c.args.served.now c.args.serving.now.grid c.args.session c.in-Limit.change c.requires.grid
-    (subst (λ (w : Wanted). IsRightWanted c.args.served.now c.args.session w) c.in-Limit.is c.requires.right)
+pub returns-in-Row-clause-right : goal.returns-in-Row-clause-right
+returns-in-Row-clause-right g c =
+    row_wanted c.args.served.now c.args.serving.now.grid c.args.session c.in-Row.control c.work.result c.requires.grid
+    (subst (λ (w : Wanted). IsRightWanted c.args.served.now c.args.session w) c.in-Row.is c.requires.right)
+    c.work.ensures
