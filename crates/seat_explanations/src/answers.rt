@@ -110,7 +110,7 @@ const ROOMS: &[Explanation] = &[
         behind: "",
         code: "ROOM",
         numbers: NONE,
-        text: "Behind it stands each class with its room: the seats that a request for it would find on the whole place;\nof loads and why on this one leg; of ladder on its leg, when all lines are answered.",
+        text: "Behind it stands each class with its room: the seats that a request for it would find on the whole place;\nof loads and why on this one leg; of ladder on its leg, when all lines are answered.\nOf rooms, C behind the seats: the class is closed on a leg of the place, and nothing is sold in it until it is opened.",
     },
     Explanation {
         behind: "",
@@ -179,6 +179,12 @@ const REASONS: &[Explanation] = &[
         code: "WAIT",
         numbers: NONE,
         text: "Of why and loads: each class of the leg with the seats that wait in it, of those that may.",
+    },
+    Explanation {
+        behind: "",
+        code: "CLOSED",
+        numbers: NONE,
+        text: "Of why: the classes that are closed on the leg, as it stood ahead of the line. In one of them the room is 0, and nothing may wait.",
     },
     Explanation {
         behind: "",
@@ -294,6 +300,24 @@ const REQUESTS: &[Explanation] = &[
         numbers: NONE,
         text: "A row of limits or of changes. In a journal and in a ladder's input: a change of a limit, whose reply is OK or NO.",
     },
+    Explanation {
+        behind: "",
+        code: "CLOSE",
+        numbers: NONE,
+        text: "A row of changes, as CLOSE LZ601 27JUL24 LHRKEF Q: the class is closed on that leg, each class where none is named, and on each leg of the flight\nthat departs on the day where no cities are. Nothing is sold in it, listed or confirmed from the list until it is opened; its held seats stay, and cancels go on.\nThe reply is OK, of what is closed already too, or NO where the leg lacks the class.",
+    },
+    Explanation {
+        behind: "",
+        code: "OPEN",
+        numbers: NONE,
+        text: "A row of changes, as OPEN LZ601 27JUL24 LHRKEF Q: what CLOSE closed is open again, by class, cities and day as there.\nThe reply is OK, with a KL for each booking that waited and fits, or NO where the leg lacks the class.",
+    },
+    Explanation {
+        behind: "",
+        code: "ST",
+        numbers: NONE,
+        text: "In a journal, behind V3, the version that has such lines: the manager closes (C) or opens (O) a class of a leg, or all, for which * stands.\nThe reply is OK or NO.",
+    },
 ];
 
 // The first and the last line of what is kept in files.
@@ -336,7 +360,13 @@ const PARTNERS: &[Explanation] = &[
         behind: "",
         code: "CL",
         numbers: NONE,
-        text: "Of avs: closed, and the waiting list of the class is open on the segment.",
+        text: "Of avs: closed, and the waiting list of the class is open on the segment.\nIn a table of replies, of the manager: the class is closed from that line on.",
+    },
+    Explanation {
+        behind: "",
+        code: "OP",
+        numbers: NONE,
+        text: "In a table of replies, of the manager: the class is open from that line on.",
     },
     Explanation {
         behind: "",

@@ -79,7 +79,7 @@ pub(crate) const ENTRIES: &[Explanation] = &[
         behind: "",
         code: "P5",
         numbers: ENTRY,
-        text: "The entry's session may not make it, or the call is not the next of that session.\nSessions 1 to 8 ask for seats, and session 0, the manager, changes limits.\nWith --after it may be the older journal, which is read first.\nOf recover and serve it is a whole line behind the right ones. Look whether the set, the limits and the days are the journal's. If they are, make a copy\nof the file; recover --cut then takes away that line and all behind it, at most 4,096 lines and 256 KiB, and keeps them beside the journal.",
+        text: "The entry's session may not make it, or the call is not the next of that session.\nSessions 1 to 8 ask for seats, and session 0, the manager, changes limits, and closes and opens classes.\nWith --after it may be the older journal, which is read first.\nOf recover and serve it is a whole line behind the right ones. Look whether the set, the limits and the days are the journal's. If they are, make a copy\nof the file; recover --cut then takes away that line and all behind it, at most 4,096 lines and 256 KiB, and keeps them beside the journal.",
     },
     Explanation {
         behind: "",
@@ -91,7 +91,7 @@ pub(crate) const ENTRIES: &[Explanation] = &[
         behind: "",
         code: "P7",
         numbers: ENTRY,
-        text: "The command or change of the entry does not fit the flights: there is no such place or leg.\nThe journal may be of another data set, first day or number of days.\nWith --after it may be the older journal, which is read first.\nOf recover and serve it is a whole line behind the right ones. Look whether the set, the limits and the days are the journal's. If they are, make a copy\nof the file; recover --cut then takes away that line and all behind it, at most 4,096 lines and 256 KiB, and keeps them beside the journal.",
+        text: "What the entry asks for does not fit the flights: there is no such place or leg.\nThe journal may be of another data set, first day or number of days.\nWith --after it may be the older journal, which is read first.\nOf recover and serve it is a whole line behind the right ones. Look whether the set, the limits and the days are the journal's. If they are, make a copy\nof the file; recover --cut then takes away that line and all behind it, at most 4,096 lines and 256 KiB, and keeps them beside the journal.",
     },
     Explanation {
         behind: "",

@@ -20,13 +20,13 @@ fn rows() -> &'static [Explanation] {
 
 const NONE: &[&str] = &[];
 
-// In the order of the rows of the reply table, and behind them those of a change, of an advice and of a class that is open.
+// In the order of the rows of the reply table, and behind them those of what the manager sets, of an advice and of a class that is open.
 const REPLIES: &[Explanation] = &[
     Explanation {
         behind: "",
         code: "NO",
         numbers: NONE,
-        text: "No action taken. The code of the request is not NN, SS, LL or XX; or a request for seats has a live booking\nof the same locator, place and class; or a cancellation has none, or has more seats than its booking.\nOf a change of a limit: its leg lacks the class, or the limit is out of the order of the ranks or below the seats held.",
+        text: "No action taken. The code of the request is not NN, SS, LL or XX; or a request for seats has a live booking\nof the same locator, place and class; or a cancellation has none, or has more seats than its booking.\nOf a change of a limit: its leg lacks the class, or the limit is out of the order of the ranks or below the seats held.\nOf a class to be closed or opened: its leg lacks it.",
     },
     Explanation {
         behind: "",
@@ -50,7 +50,7 @@ const REPLIES: &[Explanation] = &[
         behind: "",
         code: "UC",
         numbers: NONE,
-        text: "Unable, and not waitlisted: the seats of NN do not fit, and a leg lacks the mark N or waiting room;\nor those of SS do not fit, and there is no waiting room; or LL finds no waiting room.",
+        text: "Unable, and not waitlisted: the seats of NN do not fit, and a leg lacks the mark N or waiting room;\nor those of SS do not fit, and there is no waiting room; or LL finds no waiting room.\nA class that is closed on a leg has neither room nor waiting room.",
     },
     Explanation {
         behind: "",
@@ -80,13 +80,13 @@ const REPLIES: &[Explanation] = &[
         behind: "",
         code: "OK",
         numbers: NONE,
-        text: "The change of a limit is made: the limit keeps the order of the ranks and is not below the seats held.\nA KL follows for each booking that it confirms.",
+        text: "The change of a limit is made: the limit keeps the order of the ranks and is not below the seats held.\nOr the class is closed or open from now on.\nA KL follows for each booking that the change, or a class that is opened, confirms.",
     },
     Explanation {
         behind: "",
         code: "KL",
         numbers: NONE,
-        text: "An advice: the seats of a booking that waited are confirmed, behind an HL, an HX or the OK of a change.",
+        text: "An advice: the seats of a booking that waited are confirmed, behind an HL, an HX or the OK of a change\nor of a class that is opened.",
     },
     Explanation {
         behind: "",

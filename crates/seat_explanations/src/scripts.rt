@@ -9,7 +9,7 @@ pub(crate) const SCRIPTS: &[Explanation] = &[
         behind: "",
         code: "Q1",
         numbers: SCRIPT,
-        text: "A message of the script does not begin with an address and a locator, as LONLZ B3N6VC.\nA script counts as its session. The line behind an empty one begins a new message.\nA byte order mark ahead of the text makes its first line such a one: seatdesk -v says where there is one.",
+        text: "A message of the script does not begin with an address and a locator, as LONLZ B3N6VC.\nA row of changes, as AU or CLOSE, is the manager's and stands in no script.\nA script counts as its session. The line behind an empty one begins a new message.\nA byte order mark ahead of the text makes its first line such a one: seatdesk -v says where there is one.",
     },
     Explanation {
         behind: "",
