@@ -1,0 +1,9 @@
+pub mod Rooms
+pub mod Turns
+pub mod Asking
+pub mod Carried
+pub mod Identity
+pub mod Lifted
+pub mod Asked
+pub mod Counted
+pub mod Wanted

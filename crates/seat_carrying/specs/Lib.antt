@@ -1,0 +1,4 @@
+pub mod Carrying
+pub mod Owned
+pub mod Lifting
+pub mod Laws
