@@ -9,7 +9,7 @@ use seat_host::{
     BookFault, GatherFault, Host, HostFault, Hosting, Manager, Parts, Receipt, Refusal, Session,
     Settled, gather,
 };
-use seat_journal::{Change, Command, Entry, Work};
+use seat_journal::{Change, Command, Entry, SaleChange, Work};
 use std::alloc::Global;
 use std::marker::Brand;
 use std::process::Abort;
@@ -26,7 +26,7 @@ pub struct Deeds {
     pub released: u64,
 }
 
-const ROWS: [Deeds; 5] = [
+const ROWS: [Deeds; 6] = [
     Deeds {
         row: Row {
             shows: "a session sees what it booked, and the other at its first look",
@@ -141,6 +141,45 @@ new line
         lines: 7,
         confirmed: 9,
         released: 0,
+    },
+    // Five seats of M are held and two wait when it is closed: what is cancelled then is sold to nobody, until it is opened.
+    Deeds {
+        row: Row {
+            shows: "the manager closes a class and opens it",
+            lines: b"SEATJOURNAL 2
+1 1 1 A00001 0.0.0 M SS 5 KK 0
+2 1 2 A00002 0.0.0 M SS 2 US 0
+3 0 1 V3 ST 0.0 M C OK 0
+4 1 3 A00001 0.0.0 M XX 3 HX 3
+5 1 4 A00003 0.0.0 M SS 1 UC 0
+6 0 2 V3 ST 0.0 Q C NO 0
+7 0 3 V3 ST 0.0 * O OK 0 KL:2:0.0.0:M:2
+END 7
+",
+            steps: b"new line
+new line
+0 saw  0
+0 M 00 2
+new line
+0 saw  3
+new line
+1 saw  4
+1 M 00 4
+1 Y 06 4
+new line
+new line
+new line
+0 saw  7
+0 M 01 7
+1 saw  5
+1 M 01 7
+",
+        },
+        sessions: 1,
+        cap: 999_999,
+        lines: 7,
+        confirmed: 7,
+        released: 3,
     },
     Deeds {
         row: Row {
@@ -274,6 +313,59 @@ fn set_again<K: Hosting, R: Wait + Abort>(
     }
 }
 
+/// Has the host close or open a class.
+fn sell_once<K: Hosting, R: Wait + Abort>(
+    rt: &R,
+    alloc: Global,
+    host: &Host<K>,
+    manager: &mut Manager<K>,
+    change: &SaleChange,
+) -> Result<(), Refusal> {
+    assert!(rt; host.fits_sale(change), "the leg is there");
+    host.set_sale(rt, alloc, manager, *change)
+}
+
+/// Has the manager close or open it, and looks at its receipt. Whether that is the line.
+fn sell_again<K: Hosting, R: Wait + Abort>(
+    rt: &R,
+    alloc: Global,
+    host: &Host<K>,
+    manager: &mut Manager<K>,
+    change: &SaleChange,
+    line: &Entry,
+) -> bool {
+    assert!(rt; host.fits_sale(change), "the leg is there");
+    match manager.set_sale(host, rt, alloc, *change) {
+        Ok(()) => same_line(manager.last().entry(), line),
+        Err(_) => false,
+    }
+}
+
+/// Closes or opens a class. Where a growth is refused nothing may have changed, and it is done again.
+fn sell<K: Hosting, R: Wait + Abort>(
+    rt: &R,
+    alloc: Global,
+    host: &Host<K>,
+    manager: &mut Manager<K>,
+    change: &SaleChange,
+    line: &Entry,
+) -> Result<(), BookFault> {
+    let before = (manager.receipts().len(), manager.front_len());
+    let Err(refusal) = sell_once(rt, alloc, host, manager, change) else {
+        return Ok(());
+    };
+    if refusal.fault == BookFault::JournalFull {
+        return Err(refusal.fault);
+    }
+    let after = (manager.receipts().len(), manager.front_len());
+    assert!(rt; before == after, "a refusal changes nothing");
+    assert!(rt;
+        sell_again(rt, alloc, host, manager, change, line),
+        "the second call is answered"
+    );
+    Ok(())
+}
+
 /// What the manager finds in a class, his receipts and the lines that he has seen.
 fn stand_of_manager<K: Hosting>(
     manager: &mut Manager<K>,
@@ -337,6 +429,10 @@ fn ask_line<K: Hosting, R: Wait + Abort>(
         }
         Work::Limit(change) => {
             let answer = set(rt, alloc, host, manager, change, line);
+            (answer, has_last(manager.receipts(), line))
+        }
+        Work::Sale(change) => {
+            let answer = sell(rt, alloc, host, manager, change, line);
             (answer, has_last(manager.receipts(), line))
         }
     };

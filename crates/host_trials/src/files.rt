@@ -80,6 +80,7 @@ pub fn grid(alloc: Global) -> Option<Grid> {
         limit: 3,
         wait: 2,
         listed: false,
+        closed: false,
     };
     Grid::single(alloc, Ladder::new(&[step]).ok()?).ok()
 }

@@ -2,7 +2,7 @@
 use crate::steps::lines_of;
 use airline_base::{Class, Code, Locator, Place};
 use seat_core::{Core, replay};
-use seat_journal::{Advices, Change, Command, Entry, Work};
+use seat_journal::{Advices, Change, Command, Entry, SaleChange, Work};
 use seat_limits::read_ladder;
 use seat_nesting::Grid;
 use std::alloc::Global;
@@ -67,6 +67,16 @@ pub fn change(limit: u16) -> Option<Change> {
         class: Class::new(b'F')?,
         limit,
         wait: 0,
+    })
+}
+
+/// Closes class F, or opens it.
+pub fn sale(closed: bool) -> Option<SaleChange> {
+    Some(SaleChange {
+        flight: 0,
+        leg: 0,
+        class: Some(Class::new(b'F')?),
+        closed,
     })
 }
 

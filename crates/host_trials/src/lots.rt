@@ -4,7 +4,7 @@ ghost use Rattle.std.specs.Prelude.{◌<◌, ◌≤◌};
 use crate::desk::MEMORY;
 use crate::files::Why;
 use airline_base::{Class, Code, Locator, Place};
-use seat_journal::{Change, Command, Work};
+use seat_journal::{Change, Command, SaleChange, Work};
 use seat_nesting::{Grid, Ladder, Step};
 use seat_serving::Asked;
 use std::alloc::Global;
@@ -17,12 +17,14 @@ pub fn two_classes(alloc: Global) -> Option<Grid> {
             limit: 6,
             wait: 6,
             listed: true,
+            closed: false,
         },
         Step {
             class: Class::new(b'M')?,
             limit: 4,
             wait: 6,
             listed: false,
+            closed: false,
         },
     ];
     Grid::single(alloc, Ladder::new(&steps).ok()?).ok()
@@ -93,12 +95,32 @@ impl Lots {
         })
     }
 
-    /// One of eight changes a limit.
+    /// A class, or all, to be closed or, more often, opened.
+    fn sale(&mut self) -> Option<SaleChange> {
+        let class = match self.below(4) {
+            0 => None,
+            _ => Some(Class::new(self.pick(b"YYMMQ")?)?),
+        };
+        Some(SaleChange {
+            flight: 0,
+            leg: 0,
+            class,
+            closed: self.below(3) == 0,
+        })
+    }
+
+    /// One of eight changes a limit, and one of sixteen others closes or opens a class.
     fn request(&mut self) -> Option<Asked> {
         if self.below(8) == 0 {
             return Some(Asked {
                 session: 0,
                 work: Work::Limit(self.change()?),
+            });
+        }
+        if self.below(16) == 0 {
+            return Some(Asked {
+                session: 0,
+                work: Work::Sale(self.sale()?),
             });
         }
         Some(Asked {

@@ -1,13 +1,13 @@
 //! The manager and the sessions side by side, each with a list of its own.
 ghost use Rattle.std.specs.Prelude.{◌≡◌, ◌≤◌, All, IfOk, IsTrue};
-ghost use Rattle.seat_rules.specs.Journal.{FitsChange, FitsCommand};
+ghost use Rattle.seat_rules.specs.Journal.{FitsChange, FitsCommand, FitsControl, FitsSale};
 
-use crate::inventories::{change, command, grid_of};
+use crate::inventories::{change, command, grid_of, sale};
 use crate::meeting::{Holds, Meeting};
 use crate::steps::same;
 use airline_base::{Memory, Place};
 use seat_host::{BookFault, Host, Hosting, Parts, Receipt, Settled, gather};
-use seat_journal::{Change, Command, CommandList, Work};
+use seat_journal::{Change, Command, CommandList, Control, SaleChange, Work};
 use seat_nesting::Grid;
 use seat_workers::{Gate, RunFault, run_sessions};
 use std::alloc::Global;
@@ -220,14 +220,14 @@ fn digit(number: usize) -> u8 {
     b'0' + (number % 10) as u8
 }
 
-/// So many changes of a limit, up and down.
+/// So many changes of a limit, down and up, between which its class is closed and opened.
 fn changes_of(
     rt: &impl Abort,
     alloc: Global,
     grid: &Grid,
     length: usize,
-) -> Result<Vec<Change>, Memory>
-    ensures { IfOk result (λ list. All (λ change. FitsChange grid.now change) list.items) }
+) -> Result<Vec<Control>, Memory>
+    ensures { IfOk result (λ list. All (λ change. FitsControl grid.now change) list.items) }
 {
     let mut items = Vec::new(alloc);
     for nth in 0..length {
@@ -236,14 +236,33 @@ fn changes_of(
     Ok(items)
 }
 
-fn nth_change(rt: &impl Abort, grid: &Grid, nth: usize) -> Result<Change, Memory>
-    ensures { IfOk result (λ change. FitsChange grid.now change) }
+fn nth_change(rt: &impl Abort, grid: &Grid, nth: usize) -> Result<Control, Memory>
+    ensures { IfOk result (λ change. FitsControl grid.now change) }
 {
-    let Some(change) = change(if nth % 2 == 0 { 9 } else { 10 }) else {
+    if nth % 4 == 1 || nth % 4 == 2 {
+        return nth_sale(rt, grid, nth % 4 == 1);
+    }
+    let Some(change) = change(if nth % 4 == 0 { 9 } else { 10 }) else {
         return Err(Memory);
     };
     assert!(rt; fits_change(grid, &change), "the change fits");
-    Ok(change)
+    Ok(Control::ToLimit(change))
+}
+
+fn nth_sale(rt: &impl Abort, grid: &Grid, closed: bool) -> Result<Control, Memory>
+    ensures { IfOk result (λ change. FitsControl grid.now change) }
+{
+    let Some(change) = sale(closed) else {
+        return Err(Memory);
+    };
+    assert!(rt; fits_sale(grid, &change), "the leg is there");
+    Ok(Control::ToSale(change))
+}
+
+fn fits_sale(grid: &Grid, change: &SaleChange) -> bool
+    ensures { IsTrue result → FitsSale grid.now change.now }
+{
+    grid.has_leg(change.flight, change.leg)
 }
 
 fn fits_change(grid: &Grid, change: &Change) -> bool
@@ -262,13 +281,13 @@ fn run<K: Hosting + Send + Sync, R: Threads + Wait + Sync, G: Gate>(
     rt: &R,
     alloc: Global,
     parts: Parts,
-    changes: &[Change],
+    changes: &[Control],
     lists: &[CommandList],
     gate: &G,
 ) -> Option<(Result<(), RunFault>, Settled)>
     requires parts { (parts.grid ≡ K.grid) × (parts.cap ≡ K.cap) × (parts.book ≡ K.book) × (parts.sessions ≡ K.sessions)
         × (parts.names ≡ K.names) }
-    requires changes { All (λ change. FitsChange parts.grid change) changes.now }
+    requires changes { All (λ change. FitsControl parts.grid change) changes.now }
     requires lists { All (λ list. All (λ command. FitsCommand parts.grid command) list) lists.now }
 {
     let (host, mut manager, mut sessions) = Host::<K>::open(rt, alloc, parts).ok()?;

@@ -207,6 +207,7 @@ AU XX123 15JUN24 16JUN24 JFKLAX F010/000 Y007/000";
     Counts::new(alloc, &grid).ok()
 }
 
+#[tactic(auto, using(seat_nesting::proofs::Rooms::fits_free))]
 fn take(counts: &mut Counts, place: Place, class: Class, seats: u16) -> bool {
     let fits = seats <= counts.room(place, class);
     if fits {
@@ -313,6 +314,7 @@ fn code_of_one(letter: u8, limit: u16, wait: u16) -> u8 {
             limit,
             wait,
             listed: false,
+            closed: false,
         }]),
         None => 9,
     }

@@ -1,7 +1,8 @@
 //! What lines leave: limits, held seats and rooms, by the inventory and by counters, and the part of one flight.
 use crate::texts::{
-    lines_after_a_wait_falls, lines_of_changes, lines_of_flight_1, lines_without_place, no_lines,
-    refused_changes, same_ladders, six_lines, waiting_lines,
+    lines_after_a_wait_falls, lines_of_changes, lines_of_closings, lines_of_flight_1,
+    lines_while_closed, lines_without_place, no_lines, refused_changes, same_ladders, six_lines,
+    waiting_lines,
 };
 use crate::trial::{Legs, Trial, Why, are_same, entries, is_same, place_of};
 use crate::worked_set::{grid, two_legs};
@@ -61,6 +62,34 @@ fn rooms_of_changes() -> &'static [Rooms] {
 fn held_of_changes() -> &'static [Held] {
     &[((0, 0, 0), b'Y', 6), ((0, 0, 0), b'M', 3)]
 }
+
+/// While M is closed on the first leg: two seats of M and six of Y are held there, and one of M on the second.
+fn rooms_while_closed() -> &'static [Rooms] {
+    &[
+        // 10 less 8, 8 less 8, and none
+        ((0, 0, 0), [2, 0, 0, 0]),
+        // 10 less 1, 8 less 1, 5 less 1
+        ((0, 1, 1), [9, 7, 4, 0]),
+        ((0, 0, 1), [2, 0, 0, 0]),
+    ]
+}
+
+/// In the end four seats of M and three of Y are held on the first leg, and one of Y on the second.
+fn rooms_of_closings() -> &'static [Rooms] {
+    &[
+        // 10 less 7, 8 less 7, the least of those and 5 less 4
+        ((0, 0, 0), [3, 1, 1, 0]),
+        // 10 less 1, 8 less 1, 5
+        ((0, 1, 1), [9, 7, 5, 0]),
+        ((0, 0, 1), [3, 1, 1, 0]),
+    ]
+}
+
+/// Closing and opening change no limit and no wait.
+const LIMITS_OF_CLOSINGS: [Limits; 2] = [
+    (0, 0, &[(b'F', 10, 0), (b'Y', 8, 0), (b'M', 5, 4)]),
+    (0, 1, &[(b'F', 10, 0), (b'Y', 8, 0), (b'M', 5, 4)]),
+];
 
 const LIMITS_OF_CHANGES: [Limits; 2] = [
     (0, 0, &[(b'F', 10, 0), (b'Y', 9, 0), (b'M', 7, 4)]),
@@ -177,6 +206,32 @@ fn changes_leave_limits(rt: HostRuntime) -> Result<(), Fail> {
         &[],
         held_after_a_wait_falls(),
         &[],
+    )?)
+}
+
+#[test]
+fn closings_stop_sales(rt: HostRuntime) -> Result<(), Fail> {
+    leave(
+        rt.alloc(),
+        lines_while_closed(),
+        rooms_while_closed(),
+        &[
+            ((0, 0, 0), b'M', 2),
+            ((0, 0, 0), b'Y', 6),
+            ((0, 1, 1), b'M', 1),
+        ],
+        &LIMITS_OF_CLOSINGS,
+    )?;
+    Ok(leave(
+        rt.alloc(),
+        lines_of_closings(),
+        rooms_of_closings(),
+        &[
+            ((0, 0, 0), b'M', 4),
+            ((0, 0, 0), b'Y', 3),
+            ((0, 1, 1), b'Y', 1),
+        ],
+        &LIMITS_OF_CLOSINGS,
     )?)
 }
 

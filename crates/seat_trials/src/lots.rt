@@ -1,9 +1,9 @@
-//! Commands and changes on four flights, two of two legs and two of three, drawn by lot.
+//! Commands, changes, and classes to be closed and opened, on four flights, two of two legs and two of three, drawn by lot.
 ghost use Rattle.std.specs.Prelude.{◌<◌, ◌≤◌};
 
 use crate::plain::Live;
 use airline_base::{Class, Code, Locator, Place};
-use seat_journal::{Change, Command, Work};
+use seat_journal::{Change, Command, SaleChange, Work};
 
 /// Numbers that are the same for the same seed (Knuth's linear congruential generator).
 #[derive(Drop)]
@@ -135,10 +135,29 @@ impl Lots {
         })
     }
 
-    /// The next line: one of eight changes a limit, for session 0.
+    /// A class of a leg, or all, to be closed or, mostly, opened.
+    fn sale(&mut self) -> Option<SaleChange> {
+        let flight = self.below(4);
+        let legs: u32 = if flight < 2 { 2 } else { 3 };
+        let class = match self.below(4) {
+            0 => None,
+            _ => Some(Class::new(self.pick(b"FYYMMQ")?)?),
+        };
+        Some(SaleChange {
+            flight,
+            leg: self.below(legs) as u8,
+            class,
+            closed: self.below(6) == 0,
+        })
+    }
+
+    /// The next line: one of eight changes a limit, and one of twelve others closes or opens a class, for session 0.
     pub fn work(&mut self, bookings: &[Live]) -> Option<Work> {
         if self.below(8) == 0 {
             return Some(Work::Limit(self.change()?));
+        }
+        if self.below(12) == 0 {
+            return Some(Work::Sale(self.sale()?));
         }
         Some(Work::Seats(self.command(bookings)?))
     }

@@ -34,6 +34,7 @@ fn history(alloc: Global, grid: Grid) -> Result<Trial, Why> {
         let session = match work {
             Work::Seats(_) => lots.below(8) as u8 + 1,
             Work::Limit(_) => 0,
+            Work::Sale(_) => 0,
         };
         let _ = trial.step(session, work)?;
         if plain.answer(&work).is_err() {
@@ -44,7 +45,7 @@ fn history(alloc: Global, grid: Grid) -> Result<Trial, Why> {
 }
 
 /// The first lines.
-fn front(alloc: Global, lines: &[Entry], count: usize) -> Result<Vec<Entry>, Why> {
+pub fn front(alloc: Global, lines: &[Entry], count: usize) -> Result<Vec<Entry>, Why> {
     let mut front = Vec::new(alloc);
     for line in lines.iter().take(count) {
         let Ok(copy) = line.copy(alloc) else {
@@ -69,6 +70,11 @@ fn misfit(work: Work) -> Work {
             let mut change = change;
             change.flight = 9;
             Work::Limit(change)
+        }
+        Work::Sale(change) => {
+            let mut change = change;
+            change.flight = 9;
+            Work::Sale(change)
         }
     }
 }
@@ -153,9 +159,9 @@ fn spoil(alloc: Global, lots: &mut Lots, lines: &mut Vec<Entry>) -> Result<(), W
 
 /// What a replay gives: the number and the kind of a fault, or 0 and what the inventory shows.
 #[derive(Clone, Copy, PartialEq)]
-struct Given {
-    number: u32,
-    kind: usize,
+pub struct Given {
+    pub number: u32,
+    pub kind: usize,
     shown: [u64; 18],
 }
 
@@ -218,7 +224,7 @@ fn opened(alloc: Global, limits: &Grid, cap: u32) -> Result<Core, Why>
 }
 
 /// Replays a journal each way.
-fn compare<R: Threads + Sync>(
+pub fn compare<R: Threads + Sync>(
     rt: &R,
     alloc: Global,
     limits: &Grid,
@@ -278,7 +284,7 @@ impl Tally {
     }
 }
 
-fn fault_at(kind: ReplayKind) -> usize {
+pub fn fault_at(kind: ReplayKind) -> usize {
     match kind {
         ReplayKind::BadNumber => 0,
         ReplayKind::BadCaller => 1,

@@ -106,12 +106,13 @@ fn places() -> &'static [Legs] {
     ]
 }
 
-/// How often each reply came, in the order of `reply_at`, and how many lines told one advice or several.
+/// How often each reply came, in the order of `reply_at`, how many lines told one advice or several, and how many of these opened a class.
 #[derive(Drop)]
 struct Tally {
     replies: [u32; 9],
     one: u32,
     several: u32,
+    opened: u32,
 }
 
 fn reply_at(reply: [u8; 2]) -> usize {
@@ -128,8 +129,18 @@ fn reply_at(reply: [u8; 2]) -> usize {
     }
 }
 
+fn is_opening(work: &Work) -> bool {
+    match work {
+        Work::Sale(change) => !change.closed,
+        _ => false,
+    }
+}
+
 impl Tally {
-    fn count(&mut self, reply: [u8; 2], advices: usize) {
+    fn count(&mut self, work: &Work, reply: [u8; 2], advices: usize) {
+        if is_opening(work) && advices > 0 {
+            self.opened = self.opened.saturating_add(1);
+        }
         if let Some(times) = self.replies.get_mut(reply_at(reply)) {
             *times = times.saturating_add(1);
         }
@@ -147,7 +158,7 @@ impl Tally {
                 return false;
             }
         }
-        self.one >= 100 && self.several >= 10
+        self.one >= 100 && self.several >= 10 && self.opened >= 3
     }
 }
 
@@ -171,6 +182,7 @@ impl Beside {
                 replies: [0; 9],
                 one: 0,
                 several: 0,
+                opened: 0,
             },
         })
     }
@@ -187,7 +199,7 @@ impl Beside {
         let Ok(want) = self.plain.answer(work) else {
             return Err("memory");
         };
-        self.tally.count(want.reply, want.advices.len());
+        self.tally.count(work, want.reply, want.advices.len());
         if entry.number != self.plain.lines() || entry.session != session || entry.call != call {
             return Err("number, session or call");
         }
@@ -229,6 +241,7 @@ fn step_both(trial: &mut Trial, beside: &mut Beside, lots: &mut Lots) -> Result<
     let session = match work {
         Work::Seats(_) => lots.below(8) as u8 + 1,
         Work::Limit(_) => 0,
+        Work::Sale(_) => 0,
     };
     let entry = trial.step(session, work)?;
     beside.compare(entry, session, &work)

@@ -94,6 +94,52 @@ END 6
 "
 }
 
+/// M is closed on a leg where two seats wait: a cancellation confirms nobody there, and nothing is sold or listed, on the
+/// leg and on the chain over it, until M is opened. The other leg and the other classes sell on.
+pub fn lines_while_closed() -> &'static [u8] {
+    b"SEATJOURNAL 2
+1 1 1 A00001 0.0.0 M SS 5 KK 0
+2 1 2 A00002 0.0.0 M SS 2 US 0
+3 0 1 V3 ST 0.0 M C OK 0
+4 0 2 V3 ST 0.0 M C OK 0
+5 1 3 A00001 0.0.0 M XX 3 HX 3
+6 1 4 A00003 0.0.0 M NN 1 UC 0
+7 1 5 A00003 0.0.0 M SS 1 UC 0
+8 1 6 A00003 0.0.0 M LL 1 UC 0
+9 1 7 A00004 0.0.1 M SS 1 UC 0
+10 1 8 A00004 0.1.1 M SS 1 KK 0
+11 1 9 A00005 0.0.0 Y SS 6 KK 0
+END 11
+"
+}
+
+/// The same, M opened again, and all classes of the other leg closed and opened.
+pub fn lines_of_closings() -> &'static [u8] {
+    b"SEATJOURNAL 2
+1 1 1 A00001 0.0.0 M SS 5 KK 0
+2 1 2 A00002 0.0.0 M SS 2 US 0
+3 0 1 V3 ST 0.0 M C OK 0
+4 0 2 V3 ST 0.0 M C OK 0
+5 1 3 A00001 0.0.0 M XX 3 HX 3
+6 1 4 A00003 0.0.0 M NN 1 UC 0
+7 1 5 A00003 0.0.0 M SS 1 UC 0
+8 1 6 A00003 0.0.0 M LL 1 UC 0
+9 1 7 A00004 0.0.1 M SS 1 UC 0
+10 1 8 A00004 0.1.1 M SS 1 KK 0
+11 1 9 A00005 0.0.0 Y SS 6 KK 0
+12 1 10 A00005 0.0.0 Y XX 4 HX 4
+13 0 3 V3 ST 0.0 Q C NO 0
+14 0 4 V3 ST 0.0 M O OK 0 KL:2:0.0.0:M:2
+15 0 5 V3 ST 0.1 * C OK 0
+16 1 11 A00006 0.1.1 F SS 1 UC 0
+17 1 12 A00006 0.0.1 Y SS 1 UC 0
+18 1 13 A00004 0.1.1 M XX 1 HX 1
+19 0 6 V3 ST 0.1 * O OK 0
+20 1 14 A00006 0.0.1 Y SS 1 KK 0
+END 20
+"
+}
+
 /// Those of the six lines that are on flight 1: lines, calls and bookings are counted anew.
 pub fn lines_of_flight_1() -> &'static [u8] {
     b"SEATJOURNAL 2
@@ -145,6 +191,40 @@ pub fn one_change() -> &'static [u8] {
 7 8 10 AU 3.1 B 5 2 NO 11 KL:9:4.0.12:C:6
 END 1
 "
+}
+
+/// A class that is closed, of which no two numbers are the same.
+pub fn one_closing() -> &'static [u8] {
+    b"SEATJOURNAL 2
+7 8 10 V3 ST 3.1 B C NO 11 KL:9:4.0.12:C:6
+END 1
+"
+}
+
+/// All classes that are opened.
+pub fn one_opening() -> &'static [u8] {
+    b"SEATJOURNAL 2
+7 8 10 V3 ST 3.1 * O NO 11 KL:9:4.0.12:C:6
+END 1
+"
+}
+
+/// Lines that are no closings: without their version, of another, without a class or a mark, with another mark, with more
+/// than one class, and under the old head.
+pub fn spoilt_closings() -> &'static [&'static [u8]] {
+    &[
+        b"SEATJOURNAL 2\n1 0 1 ST 0.0 M C OK 0\nEND 1\n",
+        b"SEATJOURNAL 2\n1 0 1 V2 ST 0.0 M C OK 0\nEND 1\n",
+        b"SEATJOURNAL 2\n1 0 1 V3 0.0 M C OK 0\nEND 1\n",
+        b"SEATJOURNAL 2\n1 0 1 V3 ST 0.0 C OK 0\nEND 1\n",
+        b"SEATJOURNAL 2\n1 0 1 V3 ST 0.0 M OK 0\nEND 1\n",
+        b"SEATJOURNAL 2\n1 0 1 V3 ST 0.0 M X OK 0\nEND 1\n",
+        b"SEATJOURNAL 2\n1 0 1 V3 ST 0.0 m C OK 0\nEND 1\n",
+        b"SEATJOURNAL 2\n1 0 1 V3 ST 0.0 MY C OK 0\nEND 1\n",
+        b"SEATJOURNAL 2\n1 0 1 V3 ST 0.0.0 M C OK 0\nEND 1\n",
+        b"SEATJOURNAL 3\n1 0 1 V3 ST 0.0 M C OK 0\nEND 1\n",
+        b"SEATJOURNAL 1\n1 0 1 V3 ST 0.0 M C OK 0\nEND 1\n",
+    ]
 }
 
 /// The least and the greatest values, no place, and two advices.
