@@ -71,7 +71,7 @@ _seatdesk() {
         place='files'
         ;;
     serve)
-        words='--set --limits --first --days --season --today --journal --desk --manager --status --every --feed --behind -v --verbose --quiet -h --help'
+        words='--set --limits --first --days --season --today --journal --desk --manager --status --every --feed --behind --close-departed -v --verbose --quiet -h --help'
         files='--set --limits --season --journal --status'
         values='--first --days --today --desk --manager --every --feed --behind'
         place=''
