@@ -1,5 +1,4 @@
 -- One booking after the other is asked for.
-use Rattle.std.specs.Prelude.{Result, Ok, Err, OnErr}
 use Rattle.std.proofs.Common.{◌≡◌, ℕ, ◌+◌, ◌<◌, Bool, true, false, List, [], ◌∷◌, ◌++◌, length, drop, filter, get_or, not, if◌then◌else◌, arith, refl, sym, ap, subst, ◌∙◌, take, length-append, append_assoc}
 use Rattle.std.proofs.lemmas.List.{append-nil, drop_more, length_push, take-append-drop, take_more}
 use Rattle.std.proofs.lemmas.List.Elements.{filter-append}
@@ -192,13 +191,3 @@ pub behind_held : (old mid new : Inventory) (live : List Owned) → mid.grid ≡
 behind_held old mid new live grid_is first rest =
     both_lines old.grid old.journal mid.journal new.journal live first
     (rest ∙ ap (λ (g : Ladders). lines_after g mid.journal (filter (λ (o : Owned). is_waiting o.booking.status) live)) grid_is)
-
--- ---- what is said where a line is wanting
-
-pub on_err : {T E : Type 0} (r : Result T E) (P : Type 0) → P → OnErr r P
-on_err (Ok t) P p = tt
-on_err (Err e) P p = p
-
-pub on_err_weaker : {T E : Type 0} (r : Result T E) (P Q : Type 0) → (P → Q) → OnErr r P → OnErr r Q
-on_err_weaker (Ok t) P Q f p = tt
-on_err_weaker (Err e) P Q f p = f p

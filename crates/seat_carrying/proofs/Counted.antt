@@ -5,7 +5,7 @@ use Rattle.std.specs.List.{AllByRecursion}
 use Rattle.seat_nesting.specs.Nesting.{ByClass, IsDistinct, IsLadder, LacksClass, Steps, held_from}
 use Rattle.seat_nesting.proofs.Rooms.{drop_first, held_cons}
 use Rattle.seat_carrying.proofs.Lifted.{lifted_falls}
-use Rattle.seat_carrying.specs.Lifting.{lifted, lifted_step, top_of}
+use Rattle.seat_carrying.specs.Lifting.{lifted, lifted_step}
 
 -- from this rank on the steps are lifted, and those above it are as they were; so much is held from it on
 pub record AreLiftedFrom (steps : Steps) (top : ℕ) (seats waits : ByClass) (rank count : ℕ) (new : Steps) : Type 0 where
@@ -68,10 +68,6 @@ bounded_lifted : (top : ℕ) (seats waits : ByClass) (steps : Steps) → top ≤
     → AllByRecursion (λ (s : Step). (s.limit ≤ 999) × (s.wait ≤ 999)) (lifted top seats waits steps)
 bounded_lifted top seats waits [] few = tt
 bounded_lifted top seats waits (s ∷ lower) few = ((omega (arith, few), omega arith), bounded_lifted top seats waits lower few)
-
-pub top_few : (steps : Steps) → IsLadder steps → top_of steps ≤ 999
-top_few [] is = omega arith
-top_few (s ∷ lower) is = is.bounded.0.0
 
 pub lifted_is_ladder : (top : ℕ) (steps : Steps) (seats waits : ByClass) → top ≤ 999 → IsLadder steps
     → IsLadder (lifted top seats waits steps)

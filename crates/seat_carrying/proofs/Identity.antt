@@ -15,7 +15,7 @@ use Rattle.seat_carrying.specs.Carrying.{anew, asked_from, command_for, in_turn,
 use Rattle.seat_carrying.specs.Laws.{CarryIsIdentity}
 use Rattle.seat_carrying.proofs.Turns.{all_turn, apart_turn, held_turn, waiting_turn}
 use Rattle.seat_carrying.proofs.Asking.{anew_push, asked_both, carried_anew, carried_differs, carried_waits, listed}
-use Rattle.seat_carrying.proofs.Carried.{ahead_differs, all_behind, all_waiting, held_anew, held_first, waits_behind}
+use Rattle.seat_carrying.proofs.Carried.{ahead_differs, all_ahead, all_behind, all_waiting, held_anew, held_first, waits_behind}
 
 -- a pass over bookings of which none fits leaves them
 pub pass_none : (grid : Ladders) (done bs : List Booking) (told : List Advice) → NoneFitsAmong grid (done ++ bs) bs
@@ -39,10 +39,6 @@ holds_none b is f l k = let not_held : is_held b.status ≡ false = ap is_held i
 
 none_turn : (grid : Ladders) (bookings bs : List Booking) → NoneFitsAmong grid bookings bs → NoneFitsAmong grid bookings (in_turn bs)
 none_turn grid bookings bs none = all_turn (λ b. may_confirm grid bookings b ≡ false) bs none
-
-all_first : (P : Booking → Type 0) (xs ys : List Booking) → AllByRecursion P (xs ++ ys) → AllByRecursion P xs
-all_first P [] ys a = tt
-all_first P (x ∷ xs) ys a = (a.0, all_first P xs ys a.1)
 
 module _ (grid : Ladders) (line : ℕ) (bookings : List Booking)
     (within : (flight leg : ℕ) → IsWithin (ladder_at grid flight leg) (held bookings flight leg))
@@ -86,7 +82,7 @@ module _ (grid : Ladders) (line : ℕ) (bookings : List Booking)
         none_now : NoneFitsAmong grid (anew line (past ++ b ∷ [])) (anew line (past ++ b ∷ []))
         none_now =
             none_anew grid bookings (anew line (past ++ b ∷ [])) line (past ++ b ∷ []) more
-            (all_first (λ x. may_confirm grid bookings x ≡ false) (past ++ b ∷ []) bs (subst (λ (l : List Booking). NoneFitsAmong grid bookings l) (sym same) none))
+            (all_ahead (λ x. may_confirm grid bookings x ≡ false) (past ++ b ∷ []) bs (subst (λ (l : List Booking). NoneFitsAmong grid bookings l) (sym same) none))
 
         passed_same : (pass grid [] [] (done ++ record b { number = n } ∷ [])).bookings ≡ done ++ record b { number = n } ∷ []
         passed_same = pass_none grid [] (done ++ record b { number = n } ∷ []) [] (subst (λ (l : List Booking). NoneFitsAmong grid l l) (sym with_it) none_now)

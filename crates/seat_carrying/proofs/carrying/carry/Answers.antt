@@ -1,11 +1,12 @@
 use Rattle.std.proofs.Common.{◌∙◌, List, subst}
-use Rattle.std.proofs.lemmas.Result.{on_ok_weaker}
+use Rattle.std.proofs.lemmas.Result.{on_err_weaker, on_ok_weaker}
+use Rattle.airline_base.proofs.Sending.{on_err_any}
 use Rattle.std.specs.List.{filter}
 use Rattle.seat_nesting.specs.Nesting.{Ladders}
 use Rattle.seat_rules.specs.Bookings.{is_held, is_waiting}
 use Rattle.seat_carrying.specs.Owned.{AsksForFirst, owned_in_turn}
 use Rattle.seat_carrying.specs.declared.owned.Owned.{Owned}
-use Rattle.seat_carrying.proofs.Asked.{behind_held, first_of_both, has_the_very, loses_nobody, on_err, on_err_weaker, rest_of_both}
+use Rattle.seat_carrying.proofs.Asked.{behind_held, first_of_both, has_the_very, loses_nobody, rest_of_both}
 use Rattle.seat_carrying.proofs.carrying.carry.Goals as goal
 
 pub returns-clause-lines : goal.returns-clause-lines
@@ -30,7 +31,7 @@ pub returns-in_err-ask_held-clause-wanting : goal.returns-in_err-ask_held-clause
 returns-in_err-ask_held-clause-wanting c =
     let held : List Owned = filter (λ (o : Owned). is_held o.booking.status) c.args.live.now in
     let waits : List Owned = filter (λ (o : Owned). is_waiting o.booking.status) c.args.live.now in
-    on_err c.from_residual.result
+    on_err_any c.from_residual.result
     (AsksForFirst c.args.core.now.grid c.args.core.now.journal c.ask_held.new.core.journal (owned_in_turn c.args.live.now))
     (first_of_both c.args.core.now.grid c.args.core.now.journal c.ask_held.new.core.journal held waits c.in_err-ask_held.ensures.wanting)
 
@@ -39,8 +40,6 @@ returns-clause-wanting c =
     let held : List Owned = filter (λ (o : Owned). is_held o.booking.status) c.args.live.now in
     let waits : List Owned = filter (λ (o : Owned). is_waiting o.booking.status) c.args.live.now in
     on_err_weaker c.ask_waiting.result
-    (AsksForFirst c.ask_held.new.core.grid c.ask_held.new.core.journal c.ask_waiting.new.core.journal waits)
-    (AsksForFirst c.args.core.now.grid c.args.core.now.journal c.ask_waiting.new.core.journal (owned_in_turn c.args.live.now))
     (λ a. rest_of_both c.args.core.now.grid c.args.core.now.journal c.ask_held.new.core.journal c.ask_waiting.new.core.journal held waits
     c.in_ok-ask_held.ensures.lines
     (subst (λ (g : Ladders). AsksForFirst g c.ask_held.new.core.journal c.ask_waiting.new.core.journal waits) c.in_ok-ask_held.ensures.grid a))
