@@ -32,12 +32,18 @@ use Rattle.seat_desk.specs.declared.fault.DeskFault.{DeskFault}
 use Rattle.seat_desk.specs.declared.fault.DeskFault.TheVariants.{Seal}
 use Rattle.seat_desk.specs.declared.inputs.Inputs.{Inputs}
 
--- what stands beside a journal differs from it, and neither its runs nor its era are known
+-- the first era, of a journal whose bookings were carried where they were
+abbrev pub era_carried : Era → Era
+era_carried old = record first_era { carried = old.carried }
+
+-- what stands beside a journal differs from it, and of its runs and its era nothing is kept but where its bookings were carried
 pub record AreDenied (beside : Beside) (basis : Basis) (journal : List ℕ) (runs : List Run) (era : Era) : Type 0 where
   pub fault : SealFault
   pub is_first : IsFaultBeside beside basis journal (Some fault)
   pub none : runs ≡ []
-  pub first : era ≡ first_era
+  pub old : Era
+  pub is_old : IsEraOf beside journal old
+  pub era_is : era ≡ era_carried old
 
 -- what stands beside a journal has no fault, and its runs and its era are those that it knows
 pub record AreAgreed (beside : Beside) (basis : Basis) (journal : List ℕ) (runs : List Run) (era : Era) : Type 0 where

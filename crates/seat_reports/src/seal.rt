@@ -12,7 +12,7 @@ ghost use Rattle.seat_seal.specs.declared.seal.SealEntry.TheVariants.{Sealed as 
 ghost use Rattle.seat_desk.specs.Answering.{HasFirstFailed, IsFirstTooLargeOf, IsRefusedAnswerOf};
 ghost use Rattle.seat_desk.specs.AuditDesk.{IsUnlawful};
 ghost use Rattle.seat_desk.specs.Desk.{HasFailed, InputFailed, IsOfInput};
-ghost use Rattle.seat_reports.specs.SealDesk.{AreKept, IsEntryOf, IsMisnumberedOf, IsPut, IsSealOfKnown, PuttingFailed, nothing};
+ghost use Rattle.seat_reports.specs.SealDesk.{era_carried, AreKept, IsEntryOf, IsMisnumberedOf, IsPut, IsSealOfKnown, PuttingFailed, nothing};
 
 use airline_base::NotedRead;
 use seat_desk::{
@@ -113,17 +113,25 @@ fn sealed<R: Threads + Sync, S: NotedRead, L: NotedRead, J: NotedRead>(
     }
 }
 
-/// What is kept of what stands beside a journal: the runs and the era that it knows, where it has no fault.
+/// What is kept of what stands beside a journal: the runs and the era that it knows, where it has no fault; and else where its bookings were carried.
 fn kept_of(beside: &Beside<'_>, basis: &Basis, journal: &[u8]) -> (Runs, Era)
     ensures { AreKept beside.now basis.now journal.now result.0 result.1 }
 {
+    let known = known_of(beside, journal);
+    let era = era_known(&known);
     match fault_beside(beside, basis, journal) {
-        Some(_) => (Runs::new(), Era::first()),
-        None => {
-            let known = known_of(beside, journal);
-            let era = era_known(&known);
-            (runs_known(known), era)
-        }
+        Some(_) => (Runs::new(), era_carried(&era)),
+        None => (runs_known(known), era),
+    }
+}
+
+/// The first era, of a journal whose bookings were carried where those of this one were.
+fn era_carried(era: &Era) -> Era
+    ensures { result ≡ era_carried era.now }
+{
+    Era {
+        carried: era.carried,
+        ..Era::first()
     }
 }
 

@@ -19,7 +19,7 @@ use Rattle.seat_seal.specs.Text.{seal_text}
 use Rattle.seat_seal.proofs.EntryLaws.{one_seal}
 use Rattle.seat_desk.specs.declared.fault.DeskFault.{DeskFault}
 use Rattle.seat_desk.specs.declared.fault.DeskFault.TheVariants as desk
-use Rattle.seat_restoring.specs.Comparing.{Differs, HasOneEntry, IsFaultAhead, IsOneEntry, Passes, is_passed}
+use Rattle.seat_restoring.specs.Comparing.{Differs, HasOneEntry, IsFaultAhead, IsOneEntry, Passes, refusal}
 
 pub has_one : (beside : Beside) (text : List ℕ) (seal : Seal) → option_map (λ t. t.now) beside.text ≡ Some text → IsSeal seal → text ≡ seal_text seal
     → IsOneEntry seal → HasOneEntry beside
@@ -41,26 +41,16 @@ by_tests : (e : Belonging) (g : Given) (file : List ℕ)
 unfolding compared
 by_tests e g file = refl
 
-passed_same : (e : Belonging) (a b c d i j : Bool) → is_passed (Some e) (first_fault a b c d i) ≡ is_passed (Some e) (first_fault a b c d j)
-passed_same e false b c d i j = refl
-passed_same e true false c d i j = refl
-passed_same e true true false d i j = refl
-passed_same e true true true false i j = refl
-passed_same e true true true true false false = refl
-passed_same e true true true true false true = refl
-passed_same e true true true true true false = refl
-passed_same e true true true true true true = refl
-
-denied_same : (e : Belonging) (fault : SealFault) (a b c d i j : Bool) → Some fault ≡ first_fault a b c d i → is_passed (Some e) (Some fault) ≡ false
-    → Some fault ≡ first_fault a b c d j
-denied_same e fault false b c d i j is denied = is
-denied_same e fault true false c d i j is denied = is
-denied_same e fault true true false d i j is denied = is
-denied_same e fault true true true false i j is denied = is
-denied_same e fault true true true true true j is denied = absurd (cc is)
-denied_same e fault true true true true false j is denied =
-    let passes : is_passed (Some e) (Some fault) ≡ true = ap (is_passed (Some e)) is in
-    absurd (cc (passes, denied))
+-- whether the journal's bytes are the sealed ones changes nothing
+same_refusal : (e : Belonging) (a b c d i j : Bool) → refusal (Some e) (first_fault a b c d i) ≡ refusal (Some e) (first_fault a b c d j)
+same_refusal e false b c d i j = refl
+same_refusal e true false c d i j = refl
+same_refusal e true true false d i j = refl
+same_refusal e true true true false i j = refl
+same_refusal e true true true true false false = refl
+same_refusal e true true true true false true = refl
+same_refusal e true true true true true false = refl
+same_refusal e true true true true true true = refl
 
 -- ---- a seal of one entry
 
@@ -102,54 +92,54 @@ module _ (beside : Beside) (basis : Basis) (file : List ℕ) (h : HasOneEntry be
       pick (inr k) = k.known_is ∙ ap (λ (s : Seal). known_in (entry_of s file)) (one_seal k.seal h.seal k.is_seal h.is_seal (sym k.is_text))
           ∙ ap known_in (one_first h.seal h.one file)
 
-  passes_one : (fault : Option SealFault) (known : Option Belonging) → IsFaultBeside beside basis [] fault → IsKnown beside file known
-      → is_passed known fault ≡ true → Passes beside basis file
-  passes_one fault known is k allowed =
-      let d = difference fault is in
+  -- the first fault beside the journal is refused as the one beside a journal without a byte is
+  refused_one : (fault : Option SealFault) (known : Option Belonging) (d : IsDifference (seal_text h.seal) basis [] fault) → IsKnown beside file known
+      → refusal known (compared h.one.entry d.given file) ≡ refusal known fault
+  refused_one fault known d k =
       let e = h.one.entry in
-      let here : is_passed (Some e) fault ≡ true = subst (λ (x : Option Belonging). is_passed x fault ≡ true) (known_is known k) allowed in
-      let first : is_passed (Some e) (compared e d.given []) ≡ true = ap (is_passed (Some e)) (sym (at_once fault d)) ∙ here in
-      let same : is_passed (Some e) (compared e d.given file) ≡ is_passed (Some e) (compared e d.given []) =
-      ap (is_passed (Some e)) (by_tests e d.given file)
-      ∙ passed_same e (same_text e.set d.given.set) (same_text e.limits d.given.limits) (same_date e.first d.given.first) (nat_eq e.days d.given.days) (is_sealed_one e.journal file) (is_sealed_one e.journal [])
-      ∙ ap (is_passed (Some e)) (sym (by_tests e d.given [])) in
+      let here : refusal (Some e) (compared e d.given file) ≡ refusal (Some e) fault =
+      ap (refusal (Some e)) (by_tests e d.given file)
+      ∙ same_refusal e (same_text e.set d.given.set) (same_text e.limits d.given.limits) (same_date e.first d.given.first) (nat_eq e.days d.given.days) (is_sealed_one e.journal file) (is_sealed_one e.journal [])
+      ∙ ap (refusal (Some e)) (sym (at_once fault d ∙ by_tests e d.given [])) in
+      subst (λ (x : Option Belonging). refusal x (compared e d.given file) ≡ refusal x fault) (sym (known_is known k)) here
+
+  passes_one : (fault : Option SealFault) (known : Option Belonging) → IsFaultBeside beside basis [] fault → IsKnown beside file known
+      → refusal known fault ≡ None → Passes beside basis file
+  passes_one fault known is k none =
+      let d = difference fault is in
       record {
-        fault = compared e d.given file;
-        is_first = with_file fault (compared e d.given file) d refl;
+        first = compared h.one.entry d.given file;
+        is_first = with_file fault (compared h.one.entry d.given file) d refl;
         known = known;
         is_known = k;
-        allowed = subst (λ (x : Option Belonging). is_passed x (compared e d.given file) ≡ true) (sym (known_is known k)) (same ∙ first);
+        none = refused_one fault known d k ∙ none;
       }
 
-  differs_one : (fault : SealFault) (known : Option Belonging) → IsFaultBeside beside basis [] (Some fault) → IsKnown beside file known
-      → is_passed known (Some fault) ≡ false → (told : DeskFault) → told ≡ desk.Seal fault → Differs beside basis file told
-  differs_one fault known is k refused told says =
-      let d = difference (Some fault) is in
-      let e = h.one.entry in
-      let here : is_passed (Some e) (Some fault) ≡ false = subst (λ (x : Option Belonging). is_passed x (Some fault) ≡ false) (known_is known k) refused in
-      let same : Some fault ≡ compared e d.given file =
-      denied_same e fault (same_text e.set d.given.set) (same_text e.limits d.given.limits) (same_date e.first d.given.first) (nat_eq e.days d.given.days) (is_sealed_one e.journal []) (is_sealed_one e.journal file)
-      (at_once (Some fault) d ∙ by_tests e d.given []) here ∙ sym (by_tests e d.given file) in
+  differs_one : (fault : Option SealFault) (known : Option Belonging) (told : SealFault) → IsFaultBeside beside basis [] fault → IsKnown beside file known
+      → refusal known fault ≡ Some told → Differs beside basis file (desk.Seal told)
+  differs_one fault known told is k refused =
+      let d = difference fault is in
       record {
-        first = fault;
-        is_first = with_file (Some fault) (Some fault) d same;
+        first = compared h.one.entry d.given file;
+        is_first = with_file fault (compared h.one.entry d.given file) d refl;
         known = known;
         is_known = k;
-        refused = refused;
-        is = says;
+        told = told;
+        refused = refused_one fault known d k ∙ refused;
+        is = refl;
       }
 
 -- ---- whatever stands there
 
 pub passes_so : (beside : Beside) (basis : Basis) (file : List ℕ) (fault : Option SealFault) (known : Option Belonging)
-    → IsFaultAhead beside basis file fault → IsKnown beside file known → is_passed known fault ≡ true → Passes beside basis file
-passes_so beside basis file fault known (inl is) k allowed =
-    record { fault = fault; is_first = is; known = known; is_known = k; allowed = allowed }
-passes_so beside basis file fault known (inr one) k allowed = passes_one beside basis file one.0 fault known one.1 k allowed
+    → IsFaultAhead beside basis file fault → IsKnown beside file known → refusal known fault ≡ None → Passes beside basis file
+passes_so beside basis file fault known (inl is) k none =
+    record { first = fault; is_first = is; known = known; is_known = k; none = none }
+passes_so beside basis file fault known (inr one) k none = passes_one beside basis file one.0 fault known one.1 k none
 
-pub differs_so : (beside : Beside) (basis : Basis) (file : List ℕ) (fault : SealFault) (known : Option Belonging)
-    → IsFaultAhead beside basis file (Some fault) → IsKnown beside file known → is_passed known (Some fault) ≡ false
-    → Differs beside basis file (desk.Seal fault)
-differs_so beside basis file fault known (inl is) k refused =
-    record { first = fault; is_first = is; known = known; is_known = k; refused = refused; is = refl }
-differs_so beside basis file fault known (inr one) k refused = differs_one beside basis file one.0 fault known one.1 k refused (desk.Seal fault) refl
+pub differs_so : (beside : Beside) (basis : Basis) (file : List ℕ) (fault : Option SealFault) (known : Option Belonging) (told : SealFault)
+    → IsFaultAhead beside basis file fault → IsKnown beside file known → refusal known fault ≡ Some told
+    → Differs beside basis file (desk.Seal told)
+differs_so beside basis file fault known told (inl is) k refused =
+    record { first = fault; is_first = is; known = known; is_known = k; told = told; refused = refused; is = refl }
+differs_so beside basis file fault known told (inr one) k refused = differs_one beside basis file one.0 fault known told one.1 k refused

@@ -1,13 +1,15 @@
--- What is compared of what stands beside a file that is recovered, ahead of what is found in it: the set, the limits and the days. That its bytes are not
--- those of the sealed journal is what a recovery is for: what is found of them is compared with the sealed lines.
-use Rattle.std.specs.Prelude.{◌≡◌, ◌⊎◌, ℕ, Bool, true, false, List, [], Option, None, Some, IfSome, is_some, option_map}
+-- What is compared of what stands beside a file that is recovered, ahead of what is found in it: the set, the limits and the days, and that its bookings
+-- were not carried to another journal. That its bytes are not those of the sealed journal is what a recovery is for: what is found of them is compared
+-- with the sealed lines.
+use Rattle.std.specs.Prelude.{◌≡◌, ◌⊎◌, ℕ, Bool, true, false, not, if◌then◌else◌, List, [], Option, None, Some, IfSome, is_some, option_map}
 use Rattle.seat_seal.specs.Besides.{IsFaultBeside}
 use Rattle.seat_seal.specs.declared.beside.Basis.{Basis}
 use Rattle.seat_seal.specs.declared.beside.Beside.{Beside}
 use Rattle.seat_seal.specs.declared.comparing.SealFault.{SealFault}
-use Rattle.seat_seal.specs.declared.comparing.SealFault.TheVariants.{Journal}
+use Rattle.seat_seal.specs.declared.comparing.SealFault.TheVariants.{Carried, Journal}
 use Rattle.seat_seal.specs.declared.seal.Sealed.{Sealed as Belonging}
-use Rattle.seat_seal.specs.Known.{IsKnown}
+use Rattle.seat_seal.specs.Eras.{is_carried}
+use Rattle.seat_seal.specs.Known.{IsKnown, era_known}
 use Rattle.seat_desk.specs.Answering.{HasGroundOf}
 use Rattle.seat_desk.specs.Loading.{Bytes, IsBehind}
 use Rattle.seat_desk.specs.Sealing.{basis_of}
@@ -26,22 +28,30 @@ is_passed known None = true
 is_passed known (Some Journal) = is_some known
 is_passed known (Some fault) = false
 
--- the first fault of what stands beside a journal of these bytes on this basis is passed
+-- the fault for which a journal is refused: the first of what stands beside it, unless that is passed; and behind it, that its bookings were carried
+abbrev pub refusal : Option Belonging → Option SealFault → Option SealFault
+refusal known fault =
+    if not (is_passed known fault) then fault
+    else if is_carried (era_known known) then Some Carried
+    else None
+
+-- a journal of these bytes is not refused on this basis
 pub record Passes (beside : Beside) (basis : Basis) (file : List ℕ) : Type 0 where
-  pub fault : Option SealFault
-  pub is_first : IsFaultBeside beside basis file fault
+  pub first : Option SealFault
+  pub is_first : IsFaultBeside beside basis file first
   pub known : Option Belonging
   pub is_known : IsKnown beside file known
-  pub allowed : is_passed known fault ≡ true
+  pub none : refusal known first ≡ None
 
 -- it is refused
 pub record Differs (beside : Beside) (basis : Basis) (file : List ℕ) (fault : DeskFault) : Type 0 where
-  pub first : SealFault
-  pub is_first : IsFaultBeside beside basis file (Some first)
+  pub first : Option SealFault
+  pub is_first : IsFaultBeside beside basis file first
   pub known : Option Belonging
   pub is_known : IsKnown beside file known
-  pub refused : is_passed known (Some first) ≡ false
-  pub is : fault ≡ desk.Seal first
+  pub told : SealFault
+  pub refused : refusal known first ≡ Some told
+  pub is : fault ≡ desk.Seal told
 
 -- ---- a seal of one entry
 

@@ -5,7 +5,7 @@ ghost use Rattle.seat_recovery.specs.OpenText.{open_text};
 ghost use Rattle.seat_seal.specs.Comparing.{begins_sealed};
 ghost use Rattle.seat_seal.specs.Imprints.{imprint_of};
 ghost use Rattle.seat_serving.specs.GoingOn.{IsFoundIn};
-ghost use Rattle.seat_restoring.specs.Comparing.{Differs, HasOneEntry, IsFaultAhead, IsOneEntry, Passes, is_passed};
+ghost use Rattle.seat_restoring.specs.Comparing.{Differs, HasOneEntry, IsFaultAhead, IsOneEntry, Passes, is_passed, refusal};
 ghost use Rattle.seat_restoring.specs.Found.{KeepsSealed, LosesSealed, has_sealed, is_no_longer};
 
 use crate::sealing::text_of;
@@ -13,10 +13,11 @@ use seat_desk::DeskFault;
 use seat_recovery::Recovered;
 use seat_seal::{
     Basis, Beside, Imprint, JournalState, Seal, SealEntry, SealFault, Sealed, SealedJournal,
-    begins_sealed, fault_beside, imprint_beside, imprint_of, known_of, read_seal,
+    begins_sealed, era_known, fault_beside, imprint_beside, imprint_of, known_of, read_seal,
 };
 
-/// Refuses a journal where what stands beside it is no seal, or one of another set, other limits or other days. Whether what is found of
+/// Refuses a journal where what stands beside it is no seal, or one of another set, other limits or other days; and behind these, one whose bookings were
+/// carried to another journal (`SealFault::Carried`). Whether what is found of
 /// its bytes begins with the sealed lines is seen once it is found ([`sealed_imprint`]). The journal's bytes are digested only beside a seal of two
 /// entries, and beside one of a journal of which nothing else is known.
 pub fn passed(seal: &Beside<'_>, basis: &Basis, journal: &[u8]) -> Result<(), DeskFault>
@@ -24,13 +25,24 @@ pub fn passed(seal: &Beside<'_>, basis: &Basis, journal: &[u8]) -> Result<(), De
     ensures fault { IfErr result (Differs seal.now basis.now journal.now) }
 {
     let known = known_of(seal, journal);
-    let Some(first) = fault_ahead(seal, basis, journal) else {
-        return Ok(());
-    };
-    if is_passed(&known, first) {
-        return Ok(());
+    let first = fault_ahead(seal, basis, journal);
+    match refusal(&known, first) {
+        None => Ok(()),
+        Some(fault) => Err(DeskFault::Seal(fault)),
     }
-    Err(DeskFault::Seal(first))
+}
+
+/// The fault for which a journal is refused of which this is known, and whose seal has this first fault.
+fn refusal(known: &Option<Sealed>, first: Option<SealFault>) -> Option<SealFault>
+    ensures { result ≡ refusal known.now first }
+{
+    if !is_passed(known, first) {
+        return first;
+    }
+    if era_known(known).is_carried() {
+        return Some(SealFault::Carried);
+    }
+    None
 }
 
 /// The first fault of what stands beside a journal; of a seal of one entry, which names what else is known of the journal, that beside a journal
@@ -70,12 +82,14 @@ fn is_one_entry(seal: &Seal) -> bool
     }
 }
 
-fn is_passed(known: &Option<Sealed>, fault: SealFault) -> bool
-    ensures { result ≡ is_passed known.now (Some fault) }
+/// Whether a journal is looked at for which this is the first fault of its seal: none, or that its bytes are another's where lines were sealed.
+fn is_passed(known: &Option<Sealed>, first: Option<SealFault>) -> bool
+    ensures { result ≡ is_passed known.now first }
 {
-    match fault {
-        SealFault::Journal => known.is_some(),
-        _ => false,
+    match first {
+        None => true,
+        Some(SealFault::Journal) => known.is_some(),
+        Some(_) => false,
     }
 }
 

@@ -32,9 +32,9 @@ pub fn seals_of(
     let lines = count_of(found);
     let era = era_of(seal, bytes);
     let runs = runs_over(seal, bytes, lines);
-    let newer = closed_over(basis, era, imprint, lines, runs);
+    let newer = closed_over(basis, &era, imprint, lines, runs);
     let more = runs_over(seal, bytes, lines);
-    let begun = open_over(basis, era, imprint, lines, more);
+    let begun = open_over(basis, &era, imprint, lines, more);
     let older = SealEntry::Sealed(begun);
     if !may_be_sealed(&older, &newer) {
         return None;
@@ -42,18 +42,18 @@ pub fn seals_of(
     Some(seal_texts(older, newer))
 }
 
-fn closed_over(basis: &Basis, era: Era, imprint: &Imprint, lines: u32, runs: Runs) -> Sealed
+fn closed_over(basis: &Basis, era: &Era, imprint: &Imprint, lines: u32, runs: Runs) -> Sealed
     ensures entry { IsClosedEntry basis.now imprint.now lines runs result }
-    ensures era { result.era ≡ era }
+    ensures era { result.era ≡ era.now }
 {
-    closed_entry(basis, era, *imprint, lines, runs)
+    closed_entry(basis, *era, *imprint, lines, runs)
 }
 
-fn open_over(basis: &Basis, era: Era, imprint: &Imprint, lines: u32, runs: Runs) -> Sealed
+fn open_over(basis: &Basis, era: &Era, imprint: &Imprint, lines: u32, runs: Runs) -> Sealed
     ensures entry { IsOpenEntry basis.now imprint.now lines runs result }
-    ensures era { result.era ≡ era }
+    ensures era { result.era ≡ era.now }
 {
-    open_entry(basis, era, *imprint, lines, runs)
+    open_entry(basis, *era, *imprint, lines, runs)
 }
 
 /// The count of the lines that were found.

@@ -18,9 +18,9 @@ use Rattle.seat_seal.specs.declared.seal.Seal.{Seal}
 use Rattle.seat_seal.specs.Dates.{is_date}
 use Rattle.seat_seal.specs.Digests.{IsDigest}
 use Rattle.seat_seal.specs.Eras.{is_first}
-use Rattle.seat_seal.specs.Rules.{is_era, is_imprint, is_journal, is_today, are_rising, is_script, are_changes, is_run, is_sealed, is_entry, is_second, is_seal, IsScript, IsChanges, IsNamed, HasDigests, HasTypes, IsSeal}
-use Rattle.seat_seal.specs.Text.{newline, most_runs, line, date_text, era_lines, era_lines_but, era_text, head_text, is_plain, is_second_plain, today_text, imprint_text, journal_text, script_text, script_line, changes_text, run_line, run_text, sealed_text, other_text, entry_text, second_text, entries_text, digest_line, seal_text}
-use Rattle.seat_seal.specs.Reading.{digest_at, number_at, date_at, era_at, today_at, imprint_at, journal_at, script_at, line_at, script_line_at, items_in, changes_at, run_at, sealed_at, other_at, entry_at, second_at, head_at, seal_at, one_entry, two_entries}
+use Rattle.seat_seal.specs.Rules.{is_era, is_carried_to, is_imprint, is_journal, is_today, are_rising, is_script, are_changes, is_run, is_sealed, is_entry, is_second, is_seal, IsScript, IsCarriedTo, IsChanges, IsNamed, HasDigests, HasTypes, IsSeal}
+use Rattle.seat_seal.specs.Text.{newline, most_runs, line, date_text, era_lines, era_lines_but, era_text, head_text, is_plain, is_second_plain, carried_text, today_text, imprint_text, journal_text, script_text, script_line, changes_text, run_line, run_text, sealed_text, other_text, entry_text, second_text, entries_text, digest_line, seal_text}
+use Rattle.seat_seal.specs.Reading.{digest_at, number_at, date_at, era_at, carried_at, today_at, imprint_at, journal_at, script_at, line_at, script_line_at, items_in, changes_at, run_at, sealed_at, other_at, entry_at, second_at, head_at, seal_at, one_entry, two_entries}
 use Rattle.seat_seal.proofs.Calendar.{date_again}
 use Rattle.seat_seal.proofs.EraText.{first_is}
 use Rattle.seat_seal.proofs.FieldLaws.{digest_again, number_again, imprint_again, journal_again, script_again, line_again}
@@ -170,34 +170,58 @@ today_again None rest is apart = rw apart refl
 today_again (Some d) rest is apart =
     rw (line_again (codes "today ") (date_text d) rest date_at d (date_again d (newline ∷ rest) is)) refl
 
-lines_again : (e : Era) (rest : List ℕ) → is_era e ≡ true → line_at (codes "today ") date_at rest ≡ None
+-- neither the line of a host's day nor that of another journal stands there
+record IsBehindEra (rest : List ℕ) : Type 0 where
+  pub today : line_at (codes "today ") date_at rest ≡ None
+  pub carried : line_at (codes "carried ") imprint_at rest ≡ None
+
+carried_again : (o : Option Imprint) (rest : List ℕ) → IfSome o IsCarriedTo → is_carried_to o ≡ true → IsBehindEra rest
+    → carried_at (carried_text o ++ rest) ≡ (o, rest)
+unfolding carried_at
+carried_again None rest is small apart = rw apart.carried refl
+carried_again (Some i) rest is small apart =
+    rw (line_again (codes "carried ") (imprint_text i) rest imprint_at i (imprint_again i (newline ∷ rest) is small refl)) refl
+
+no_day : (o : Option Imprint) (rest : List ℕ) → IsBehindEra rest → line_at (codes "today ") date_at (carried_text o ++ rest) ≡ None
+unfolding line_at
+no_day None rest apart = apart.today
+no_day (Some i) rest apart = refl
+
+era_apart : (a b c rest : List ℕ) → (a ++ b ++ c) ++ rest ≡ a ++ (b ++ (c ++ rest))
+era_apart a b c rest = simp append_assoc
+
+lines_again : (e : Era) (rest : List ℕ) → IfSome e.carried IsCarriedTo → is_era e ≡ true → IsBehindEra rest
     → era_at (era_lines e ++ rest) ≡ (e, rest)
 unfolding era_at era_lines
-lines_again e rest is apart =
-    let a = both_true (leb 1 e.epoch && leb e.epoch 999_999) (is_today e.today) is in
+lines_again e rest to is apart =
+    let z = both_true (leb 1 e.epoch && leb e.epoch 999_999 && is_today e.today) (is_carried_to e.carried) is in
+    let a = both_true (leb 1 e.epoch && leb e.epoch 999_999) (is_today e.today) z.0 in
     let b = both_true (leb 1 e.epoch) (leb e.epoch 999_999) a.0 in
-    let r1 = today_text e.today ++ rest in
+    let r2 = carried_text e.carried ++ rest in
+    let r1 = today_text e.today ++ r2 in
     let epoch = line_again (codes "epoch ") (decimal e.epoch) r1 (number_at 999_999) e.epoch (number_again 999_999 e.epoch (newline ∷ r1) (omega arith) (le_is e.epoch 999_999 b.1) refl) in
-    rw (append_assoc (line (codes "epoch ") (decimal e.epoch)) (today_text e.today) rest, epoch, today_again e.today rest a.1 apart) refl
+    let today = today_again e.today r2 a.1 (no_day e.carried rest apart) in
+    let carried = carried_again e.carried rest to z.1 apart in
+    rw (era_apart (line (codes "epoch ") (decimal e.epoch)) (today_text e.today) (carried_text e.carried) rest, epoch, today, carried) refl
 
-but_again : (b : Bool) (e : Era) (rest : List ℕ) → b ≡ is_first e → is_era e ≡ true → line_at (codes "today ") date_at rest ≡ None
+but_again : (b : Bool) (e : Era) (rest : List ℕ) → b ≡ is_first e → IfSome e.carried IsCarriedTo → is_era e ≡ true → IsBehindEra rest
     → line_at (codes "epoch ") (number_at 999_999) rest ≡ None → era_at (era_lines_but b e ++ rest) ≡ (e, rest)
 unfolding era_at
-but_again true e rest first is apart none = rw none (ap (λ (x : Era). (x, rest)) (sym (first_is e (sym first))))
-but_again false e rest first is apart none = lines_again e rest is apart
+but_again true e rest first to is apart none = rw none (ap (λ (x : Era). (x, rest)) (sym (first_is e (sym first))))
+but_again false e rest first to is apart none = lines_again e rest to is apart
 
-era_again : (e : Era) (rest : List ℕ) → is_era e ≡ true → line_at (codes "today ") date_at rest ≡ None
+era_again : (e : Era) (rest : List ℕ) → IfSome e.carried IsCarriedTo → is_era e ≡ true → IsBehindEra rest
     → line_at (codes "epoch ") (number_at 999_999) rest ≡ None → era_at (era_text e ++ rest) ≡ (e, rest)
 unfolding era_text
-era_again e rest is apart none = but_again (is_first e) e rest refl is apart none
+era_again e rest to is apart none = but_again (is_first e) e rest refl to is apart none
 
 no_epoch : (journal rest : List ℕ) → line_at (codes "epoch ") (number_at 999_999) (line (codes "journal ") journal ++ rest) ≡ None
 unfolding line_at
 no_epoch journal rest = refl
 
-no_today : (journal rest : List ℕ) → line_at (codes "today ") date_at (line (codes "journal ") journal ++ rest) ≡ None
+behind_era : (journal rest : List ℕ) → IsBehindEra (line (codes "journal ") journal ++ rest)
 unfolding line_at
-no_today journal rest = refl
+behind_era journal rest = record { today = refl; carried = refl }
 
 -- ---- entries
 
@@ -250,7 +274,7 @@ sealed_again s rest is rules =
     let limits = line_again (codes "limits ") (encode_lower s.limits) r2 digest_at s.limits (digest_again s.limits (newline ∷ r2) is.limits) in
     let first = line_again (codes "first ") (date_text s.first) r3 date_at s.first (date_again s.first (newline ∷ r3) r.first) in
     let days = line_again (codes "days ") (decimal s.days) r4e (number_at 366) s.days (number_again 366 s.days (newline ∷ r4e) (omega arith) r.days refl) in
-    let era = era_again s.era r4 r.era (no_today (journal_text s.journal) r5) (no_epoch (journal_text s.journal) r5) in
+    let era = era_again s.era r4 is.carried r.era (behind_era (journal_text s.journal) r5) (no_epoch (journal_text s.journal) r5) in
     let journal = line_again (codes "journal ") (journal_text s.journal) r5 journal_at s.journal (journal_again s.journal (newline ∷ r5) is.journal r.journal) in
     let runs = runs_again most_runs s.journal.lines [] s.runs rest r.lines is.runs r.runs r.few in
     rw (sealed_apart (line (codes "set ") (encode_lower s.set)) (line (codes "limits ") (encode_lower s.limits)) (line (codes "first ") (date_text s.first)) (line (codes "days ") (decimal s.days)) (era_text s.era) (line (codes "journal ") (journal_text s.journal)) (flat_map run_text s.runs) (codes "END\n") rest, set, limits, first, days, era, journal, runs) refl

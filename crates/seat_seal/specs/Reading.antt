@@ -119,11 +119,22 @@ today_from bytes (Some date) = (Some date.0, date.1)
 unfoldable pub today_at : List ℕ → Option Date × List ℕ
 today_at bytes = today_from bytes (line_at (codes "today ") date_at bytes)
 
+abbrev pub carried_from : List ℕ → Field Imprint → Option Imprint × List ℕ
+carried_from bytes None = (None, bytes)
+carried_from bytes (Some imprint) = (Some imprint.0, imprint.1)
+
+-- the line of the journal to which the bookings were carried, where it stands there
+unfoldable pub carried_at : List ℕ → Option Imprint × List ℕ
+carried_at bytes = carried_from bytes (line_at (codes "carried ") imprint_at bytes)
+
 abbrev pub era_from : List ℕ → Field ℕ → Era × List ℕ
 era_from bytes None = (first_era, bytes)
-era_from bytes (Some epoch) = (record { epoch = epoch.0; today = (today_at epoch.1).0 }, (today_at epoch.1).1)
+era_from bytes (Some epoch) = (
+  record { epoch = epoch.0; today = (today_at epoch.1).0; carried = (carried_at (today_at epoch.1).1).0 },
+  (carried_at (today_at epoch.1).1).1,
+)
 
--- the line of the epoch, where it stands there, and the host's day: else the first era
+-- the line of the epoch, where it stands there, the host's day and the journal to which the bookings were carried: else the first era
 unfoldable pub era_at : List ℕ → Era × List ℕ
 era_at bytes = era_from bytes (line_at (codes "epoch ") (number_at 999_999) bytes)
 

@@ -26,9 +26,13 @@ abbrev pub is_today : Option Date → Bool
 is_today None = true
 is_today (Some date) = is_date date
 
--- an epoch of 1 to 999,999, and a date
+abbrev pub is_carried_to : Option Imprint → Bool
+is_carried_to None = true
+is_carried_to (Some imprint) = is_imprint imprint
+
+-- an epoch of 1 to 999,999, a date, and an imprint
 abbrev pub is_era : Era → Bool
-is_era e = nat_le 1 e.epoch && nat_le e.epoch 999_999 && is_today e.today
+is_era e = nat_le 1 e.epoch && nat_le e.epoch 999_999 && is_today e.today && is_carried_to e.carried
 
 -- sessions above this one, each above the one before it and none above 8
 abbrev pub are_rising : ℕ → List Script → Bool
@@ -73,6 +77,10 @@ IsScript s = IsDigest s.imprint.digest
 abbrev pub IsChanges : Imprint → Type 0
 IsChanges imprint = IsDigest imprint.digest
 
+-- the journal to which the bookings were carried
+abbrev pub IsCarriedTo : Imprint → Type 0
+IsCarriedTo imprint = IsDigest imprint.digest
+
 pub record IsNamed (r : Run) : Type 0 where
   pub scripts : AllByRecursion IsScript r.scripts
   pub changes : IfSome r.changes IsChanges
@@ -80,6 +88,7 @@ pub record IsNamed (r : Run) : Type 0 where
 pub record HasDigests (s : Belonging) : Type 0 where
   pub set : IsDigest s.set
   pub limits : IsDigest s.limits
+  pub carried : IfSome s.era.carried IsCarriedTo
   pub journal : IsDigest s.journal.imprint.digest
   pub runs : AllByRecursion IsNamed s.runs
 

@@ -44,9 +44,18 @@ abbrev pub today_text : Option Date → List ℕ
 today_text None = []
 today_text (Some date) = line (codes "today ") (date_text date)
 
--- the epoch, and the day of the host where one had the journal
+-- a digest, and a count of bytes
+unfoldable pub imprint_text : Imprint → List ℕ
+imprint_text i = encode_lower i.digest ++ codes " bytes " ++ decimal i.bytes
+
+-- the journal to which the bookings were carried
+abbrev pub carried_text : Option Imprint → List ℕ
+carried_text None = []
+carried_text (Some imprint) = line (codes "carried ") (imprint_text imprint)
+
+-- the epoch, the day of the host where one had the journal, and the journal to which the bookings were carried, where they were
 unfoldable pub era_lines : Era → List ℕ
-era_lines e = line (codes "epoch ") (decimal e.epoch) ++ today_text e.today
+era_lines e = line (codes "epoch ") (decimal e.epoch) ++ today_text e.today ++ carried_text e.carried
 
 abbrev pub era_lines_but : Bool → Era → List ℕ
 era_lines_but true e = []
@@ -55,10 +64,6 @@ era_lines_but false e = era_lines e
 -- the lines of an era: none of the first
 unfoldable pub era_text : Era → List ℕ
 era_text e = era_lines_but (is_first e) e
-
--- a digest, and a count of bytes
-unfoldable pub imprint_text : Imprint → List ℕ
-imprint_text i = encode_lower i.digest ++ codes " bytes " ++ decimal i.bytes
 
 abbrev pub state_text : JournalState → List ℕ
 state_text Open = codes " open"

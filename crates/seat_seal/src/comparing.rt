@@ -33,6 +33,8 @@ pub enum SealFault {
     Behind,
     /// Several runs began, and behind which of them is not said.
     Several,
+    /// Its bookings were carried to another journal.
+    Carried,
 }
 
 impl fmt::Display for SealFault {
@@ -54,6 +56,7 @@ impl fmt::Display for SealFault {
             SealFault::Again => f.write_str("SEAL again"),
             SealFault::Behind => f.write_str("SEAL behind"),
             SealFault::Several => f.write_str("SEAL runs"),
+            SealFault::Carried => f.write_str("SEAL carried"),
         }
     }
 }

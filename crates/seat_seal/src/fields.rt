@@ -1,6 +1,6 @@
 //! The fields of a seal's text, and its lines.
 ghost use Rattle.std.specs.Prelude.{◌≡◌, ◌≤◌, ◌<◌, IfSome, option_map, length};
-ghost use Rattle.seat_seal.specs.Reading.{digest_at, number_at, two_at, date_at, era_at, imprint_at, state_at, journal_at, script_at, line_at, today_at};
+ghost use Rattle.seat_seal.specs.Reading.{digest_at, number_at, two_at, date_at, era_at, imprint_at, state_at, journal_at, script_at, line_at, today_at, carried_at};
 
 use crate::date::Date;
 use crate::digest::Digest;
@@ -209,7 +209,7 @@ pub fn script_line<'a>(word: &[u8], bytes: &'a [u8]) -> Option<(Script, &'a [u8]
 
 // ---- the lines of an era
 
-/// The line of the epoch and that of the host's day, where they stand there, and else the first era.
+/// The line of the epoch, and those of the host's day and of the journal to which the bookings were carried, where they stand there, and else the first era.
 #[tactic(auto, unfolding(crate::specs::Reading::era_at))]
 pub fn era_at(bytes: &[u8]) -> (Era, &[u8])
     ensures era { result.0 ≡ (era_at bytes.now).0 }
@@ -219,9 +219,11 @@ pub fn era_at(bytes: &[u8]) -> (Era, &[u8])
         return (Era::first(), bytes);
     };
     let (today, rest) = today_at(rest);
+    let (carried, rest) = carried_at(rest);
     let era = Era {
         epoch: epoch as u32,
         today,
+        carried,
     };
     (era, rest)
 }
@@ -233,6 +235,17 @@ fn today_at(bytes: &[u8]) -> (Option<Date>, &[u8])
 {
     match date_line(b"today ", bytes) {
         Some((date, rest)) => (Some(date), rest),
+        None => (None, bytes),
+    }
+}
+
+#[tactic(auto, unfolding(crate::specs::Reading::carried_at))]
+fn carried_at(bytes: &[u8]) -> (Option<Imprint>, &[u8])
+    ensures carried { result.0 ≡ (carried_at bytes.now).0 }
+    ensures rest { result.1.now ≡ (carried_at bytes.now).1 }
+{
+    match imprint_line(b"carried ", bytes) {
+        Some((imprint, rest)) => (Some(imprint), rest),
         None => (None, bytes),
     }
 }

@@ -1,7 +1,7 @@
 //! Whether a seal keeps its rules.
 ghost use Rattle.std.specs.Prelude.{◌≡◌};
 ghost use Rattle.std.specs.List.{list_all};
-ghost use Rattle.seat_seal.specs.Rules.{is_era, is_imprint, is_journal, is_script, are_changes, are_rising, is_run, is_sealed, is_entry, is_second, is_seal, is_today};
+ghost use Rattle.seat_seal.specs.Rules.{is_era, is_imprint, is_journal, is_script, are_changes, are_rising, is_run, is_sealed, is_entry, is_second, is_seal, is_today, is_carried_to};
 
 use crate::date::Date;
 use crate::era::Era;
@@ -63,7 +63,19 @@ pub fn is_sealed(sealed: &Sealed) -> bool
 fn is_era(era: &Era) -> bool
     ensures { result ≡ is_era era.now }
 {
-    1 <= era.epoch && era.epoch <= MOST_EPOCHS && is_today(&era.today)
+    1 <= era.epoch
+        && era.epoch <= MOST_EPOCHS
+        && is_today(&era.today)
+        && is_carried_to(&era.carried)
+}
+
+fn is_carried_to(carried: &Option<Imprint>) -> bool
+    ensures { result ≡ is_carried_to carried.now }
+{
+    match carried {
+        Some(imprint) => is_imprint(imprint),
+        None => true,
+    }
 }
 
 fn is_today(today: &Option<Date>) -> bool

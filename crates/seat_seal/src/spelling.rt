@@ -5,8 +5,8 @@ ghost use Rattle.hex.specs.Hex.{encode_lower};
 ghost use Rattle.seat_seal.specs.Digests.{IsDigest};
 ghost use Rattle.seat_seal.specs.Reading.{one_entry};
 ghost use Rattle.seat_seal.specs.declared.seal.SealEntry.TheVariants.{Sealed as Whole};
-ghost use Rattle.seat_seal.specs.Rules.{HasDigests, HasTypes, IsChanges, IsNamed, IsScript};
-ghost use Rattle.seat_seal.specs.Text.{imprint_text, line, date_text, era_lines, era_text, head_text, is_plain, is_second_plain, today_text, journal_text, most_runs, run_line, run_text, script_text, script_line, changes_text, sealed_text, other_text, entry_text, second_text, entries_text, digest_line, seal_text, state_text};
+ghost use Rattle.seat_seal.specs.Rules.{HasDigests, HasTypes, IsCarriedTo, IsChanges, IsNamed, IsScript};
+ghost use Rattle.seat_seal.specs.Text.{imprint_text, line, date_text, era_lines, era_text, head_text, is_plain, is_second_plain, carried_text, today_text, journal_text, most_runs, run_line, run_text, script_text, script_line, changes_text, sealed_text, other_text, entry_text, second_text, entries_text, digest_line, seal_text, state_text};
 
 use crate::date::Date;
 use crate::digest::{Digest, digest_of};
@@ -160,11 +160,12 @@ fn put_sealed(text: &mut SealText, sealed: &Sealed)
     put(text, b"END\n");
 }
 
-#[tactic(auto, using(crate::proofs::EraText::no_lines, crate::proofs::EraText::all_lines))]
+#[tactic(auto, using(crate::proofs::EraText::no_lines, crate::proofs::EraText::all_lines, crate::proofs::EraText::none_carried))]
 fn put_era(text: &mut SealText, era: Era)
-    requires room { length text.old.items + 34 ≤ 262144 }
+    requires room { length text.old.items + 134 ≤ 262144 }
     ensures text { text.new.items ≡ text.old.items ++ era_text era }
-    ensures len { length text.new.items ≤ length text.old.items + 34 }
+    ensures len { length text.new.items ≤ length text.old.items + 134 }
+    ensures is { IfSome era.carried IsCarriedTo }
 {
     if !era.is_first() {
         put_era_lines(text, era);
@@ -173,12 +174,26 @@ fn put_era(text: &mut SealText, era: Era)
 
 #[tactic(auto, unfolding(crate::specs::Text::era_lines))]
 fn put_era_lines(text: &mut SealText, era: Era)
-    requires room { length text.old.items + 34 ≤ 262144 }
+    requires room { length text.old.items + 134 ≤ 262144 }
     ensures text { text.new.items ≡ text.old.items ++ era_lines era }
-    ensures len { length text.new.items ≤ length text.old.items + 34 }
+    ensures len { length text.new.items ≤ length text.old.items + 134 }
+    ensures is { IfSome era.carried IsCarriedTo }
 {
     put_number_line(text, b"epoch ", era.epoch);
     put_today(text, era.today);
+    put_carried(text, &era.carried);
+}
+
+fn put_carried(text: &mut SealText, carried: &Option<Imprint>)
+    requires room { length text.old.items + 100 ≤ 262144 }
+    ensures text { text.new.items ≡ text.old.items ++ carried_text carried.now }
+    ensures len { length text.new.items ≤ length text.old.items + 100 }
+    ensures is { IfSome carried.now IsCarriedTo }
+{
+    match carried {
+        Some(imprint) => put_imprint_line(text, b"carried ", imprint),
+        None => {}
+    }
 }
 
 fn put_today(text: &mut SealText, today: Option<Date>)
