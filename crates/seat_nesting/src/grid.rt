@@ -126,6 +126,14 @@ impl Grid {
         self.flights.get(flight as usize)?.ladder(usize::from(leg))
     }
 
+    /// The ladder of a leg by one of its owners, where it has one.
+    pub fn shared(&self, flight: u32, leg: u8) -> Option<&SharedLadder>
+        ensures found { IfSome result (λ l. l.now ≡ ladder_at self.now flight leg) }
+        ensures none { IfNone result (ladder_at self.now flight leg ≡ []) }
+    {
+        self.flights.get(flight as usize)?.shared(usize::from(leg))
+    }
+
     /// The steps of a leg; none where it has no limits.
     pub fn steps(&self, flight: u32, leg: u8) -> &[Step]
         ensures value { result.now ≡ ladder_at self.now flight leg }
@@ -180,6 +188,16 @@ impl FlightLegs {
     {
         match self.ladders.get(leg) {
             Some(Some(ladder)) => Some(ladder.get()),
+            _ => None,
+        }
+    }
+
+    fn shared(&self, leg: usize) -> Option<&SharedLadder>
+        ensures found { IfSome result (λ l. l.now ≡ steps_at self.now leg) }
+        ensures none { IfNone result (steps_at self.now leg ≡ []) }
+    {
+        match self.ladders.get(leg) {
+            Some(Some(ladder)) => Some(ladder),
             _ => None,
         }
     }
