@@ -3,6 +3,7 @@ ghost use Rattle.std.specs.Prelude.{◌≡◌, ◌≤◌, false, length, Some, I
 ghost use Rattle.airline_base.specs.Noting.{noted};
 ghost use Rattle.desk_lines.specs.Lines.{IsRightMeaning};
 ghost use Rattle.desk_telling.specs.Telling.{AreTold, told_behind};
+ghost use Rattle.flight_days.specs.Leaving.{AreDaysOf};
 ghost use Rattle.seat_desk.specs.Loading.{IsGridOf};
 ghost use Rattle.seat_disk.specs.Growing.{KeepsFront};
 ghost use Rattle.seat_recovery.specs.OpenText.{open_text};
@@ -23,6 +24,7 @@ use airline_base::{Locator, Memory};
 use desk_calls::CallIndex;
 use desk_lines::{Desk, Meaning};
 use desk_telling::put_told_behind;
+use flight_days::DayFlights;
 use seat_disk::Tape;
 use seat_serving::Serving;
 use ssim_flights::{Flights, Served};
@@ -35,6 +37,7 @@ pub(crate) fn answer_to<R: Wait, D: Tape>(
     alloc: Global,
     flights: &Flights,
     served: &Served<'_>,
+    days: &DayFlights,
     serving: &mut Serving<D>,
     calls: &mut CallIndex,
     session: u8,
@@ -43,6 +46,7 @@ pub(crate) fn answer_to<R: Wait, D: Tape>(
 ) -> Result<Heard, HearFault>
     requires ready { IsReady D.seen D.may_leave D.unsynced serving.old }
     requires served { served.now ≡ flights.now }
+    requires days { AreDaysOf days.now flights.now }
     requires grid { IsGridOf flights.now serving.old.grid }
     requires session { (1 ≤ session) × (session ≤ 8) }
     requires right { IsRightMeaning meaning }
@@ -78,7 +82,9 @@ pub(crate) fn answer_to<R: Wait, D: Tape>(
                 Err(fault) => Err(fault),
             }
         }
-        _ => match quiet_answer(alloc, flights, served, serving, session, desk, &meaning) {
+        _ => match quiet_answer(
+            alloc, flights, served, days, serving, session, desk, &meaning,
+        ) {
             Ok(text) => Ok(Heard {
                 text,
                 stays: stays_behind(&meaning),
@@ -100,18 +106,20 @@ pub fn quiet_answer<D: Tape>(
     alloc: Global,
     flights: &Flights,
     served: &Served<'_>,
+    days: &DayFlights,
     serving: &Serving<D>,
     session: u8,
     desk: &Desk,
     meaning: &Meaning,
 ) -> Result<Vec<u8>, Memory>
     requires served { served.now ≡ flights.now }
+    requires days { AreDaysOf days.now flights.now }
     requires grid { IsGridOf flights.now serving.now.grid }
     ensures { IfOk result (λ text. SaysQuiet flights.now serving.now.grid session desk.now.today desk.now.epoch desk.now.lines
         serving.now.journal meaning.now text.items) }
 {
     match meaning {
-        Meaning::Look(look) => seen(alloc, flights, served, serving, look),
+        Meaning::Look(look) => seen(alloc, flights, served, days, serving, look),
         Meaning::Again(behind) => told_again(alloc, flights, serving, session, *behind),
         Meaning::Hello(name, _) => greeting(alloc, serving, session, *name, desk),
         Meaning::Wrong(wrong) => wrong_line(alloc, *wrong, session, desk.lines),

@@ -19,7 +19,7 @@ pub use asking::asked_by;
 pub use faults::{full_line, memory_line, wrong_call_line};
 pub use heard::{HearFault, Heard};
 pub use hearing::quiet_answer;
-pub use looking::{seen, seen_by_day};
+pub use looking::seen;
 pub use open_host::OpenHost;
 pub use ready::ready_line;
 pub use seats::Seats;

@@ -16,27 +16,8 @@ use seat_nesting::Step;
 use ssim_flights::{Flight, Flights, Served, Wanted};
 use std::alloc::Global;
 
-/// The lines that answer a look.
+/// The lines that answer a look, where the flights of each day are known: a look at a day goes over its flights alone.
 pub fn seen<S: Seats>(
-    alloc: Global,
-    flights: &Flights,
-    served: &Served<'_>,
-    seats: &S,
-    look: &Look,
-) -> Result<Vec<u8>, Memory>
-    requires served { served.now ≡ flights.now }
-    requires grid { IsGridOf flights.now (S.ladders seats.now) }
-    ensures { IfOk result (λ text. IsSeen flights.now (S.ladders seats.now) (S.state seats.now) (S.count seats.now)
-        look.now.flight look.now text.items) }
-{
-    match &look.flight {
-        Some(flight) => look_line(alloc, served, seats, flight, look),
-        None => day_lines(alloc, flights, served, seats, look),
-    }
-}
-
-/// The same, where the flights of each day are known: a look at a day goes over its flights alone.
-pub fn seen_by_day<S: Seats>(
     alloc: Global,
     flights: &Flights,
     served: &Served<'_>,
@@ -52,7 +33,7 @@ pub fn seen_by_day<S: Seats>(
 {
     match &look.flight {
         Some(flight) => look_line(alloc, served, seats, flight, look),
-        None => lines_by_day(alloc, flights, served, days, seats, look),
+        None => day_lines(alloc, flights, served, days, seats, look),
     }
 }
 
@@ -85,23 +66,6 @@ fn day_lines<S: Seats>(
     alloc: Global,
     flights: &Flights,
     served: &Served<'_>,
-    seats: &S,
-    look: &Look,
-) -> Result<Vec<u8>, Memory>
-    requires served { served.now ≡ flights.now }
-    requires grid { IsGridOf flights.now (S.ladders seats.now) }
-    ensures { IfOk result (λ text. IsDayLook flights.now (S.ladders seats.now) (S.state seats.now) (S.count seats.now) look.now text.items) }
-{
-    let lines = flight_lines(alloc, flights, served, seats, look)?;
-    lines_or_none(alloc, seats, look, lines)
-}
-
-// The same, where the flights of each day are known.
-#[tactic(auto, using(crate::proofs::Days::day_said))]
-fn lines_by_day<S: Seats>(
-    alloc: Global,
-    flights: &Flights,
-    served: &Served<'_>,
     days: &DayFlights,
     seats: &S,
     look: &Look,
@@ -111,7 +75,7 @@ fn lines_by_day<S: Seats>(
     requires grid { IsGridOf flights.now (S.ladders seats.now) }
     ensures { IfOk result (λ text. IsDayLook flights.now (S.ladders seats.now) (S.state seats.now) (S.count seats.now) look.now text.items) }
 {
-    let lines = lines_on_day(alloc, flights, served, days, seats, look)?;
+    let lines = flight_lines(alloc, flights, served, days, seats, look)?;
     lines_or_none(alloc, seats, look, lines)
 }
 
@@ -148,29 +112,8 @@ fn ahead<S: Seats>(alloc: Global, seats: &S, look: &Look, flight: &[u8]) -> Resu
     Ok(text)
 }
 
-// The lines of all flights.
+// The lines of all flights: one that is not in the day's list has none.
 fn flight_lines<S: Seats>(
-    alloc: Global,
-    flights: &Flights,
-    served: &Served<'_>,
-    seats: &S,
-    look: &Look,
-) -> Result<Vec<u8>, Memory>
-    requires served { served.now ≡ flights.now }
-    requires grid { IsGridOf flights.now (S.ladders seats.now) }
-    ensures { IfOk result (λ text. IsText
-        (IsFlightLine flights.now (S.ladders seats.now) (S.state seats.now) (S.count seats.now) look.now) 0 flights.now text.items) }
-{
-    let mut text = Vec::new(alloc);
-    for index in 0..flights.len() {
-        let line = flight_line(alloc, served, seats, look, index, flights.flight(index))?;
-        put(&mut text, line.as_slice())?;
-    }
-    Ok(text)
-}
-
-// The same: a flight that is not in the day's list has no line.
-fn lines_on_day<S: Seats>(
     alloc: Global,
     flights: &Flights,
     served: &Served<'_>,

@@ -2,6 +2,7 @@
 ghost use Rattle.std.specs.Prelude.{◌≡◌, ◌≤◌, false, IfOk, IfErr, OnOk};
 ghost use Rattle.airline_base.specs.Days.{IsCenturyDay};
 ghost use Rattle.airline_base.specs.Noting.{noted};
+ghost use Rattle.flight_days.specs.Leaving.{AreDaysOf};
 ghost use Rattle.seat_desk.specs.Loading.{IsGridOf};
 ghost use Rattle.seat_disk.specs.Growing.{KeepsFront};
 ghost use Rattle.seat_recovery.specs.OpenText.{open_text};
@@ -15,6 +16,7 @@ use crate::hearing::answer_to;
 use airline_base::Day;
 use desk_calls::CallIndex;
 use desk_lines::Desk;
+use flight_days::DayFlights;
 use seat_disk::Tape;
 use seat_serving::Serving;
 use ssim_flights::{Flights, Served};
@@ -26,6 +28,7 @@ use std::sync::Wait;
 pub struct OpenHost<'a, D: Tape> {
     flights: &'a Flights,
     served: Served<'a>,
+    days: DayFlights,
     serving: Serving<D>,
     session: u8,
     desk: Desk,
@@ -34,6 +37,7 @@ pub struct OpenHost<'a, D: Tape> {
 
 impl<'a, D: Tape> Model for OpenHost<'a, D> {
     ghost use Rattle.desk_answers.specs.Hosts.{Attended, IsAttended};
+    ghost use Rattle.flight_days.specs.Leaving.{AreDaysOf};
 
     ghost Value = { Attended D };
 
@@ -44,20 +48,22 @@ impl<'a, D: Tape> Model for OpenHost<'a, D> {
       serving = s.serving;
     } };
 
-    ghost invariant = { λ s. IsAttended s.flights.now s.served s.serving.grid s.session s.desk };
+    ghost invariant = { λ s. IsAttended s.flights.now s.served s.serving.grid s.session s.desk × AreDaysOf s.days s.flights.now };
 }
 
 impl<'a, D: Tape> OpenHost<'a, D> {
-    /// Over flights and an inventory of their legs. The desk's lines are those of a session, 1 to 8.
+    /// Over flights, those of each day, and an inventory of their legs. The desk's lines are those of a session, 1 to 8.
     pub fn over(
         alloc: Global,
         flights: &'a Flights,
         served: Served<'a>,
+        days: DayFlights,
         serving: Serving<D>,
         session: u8,
         desk: Desk,
     ) -> OpenHost<'a, D>
         requires served { served ≡ flights.now }
+        requires days { AreDaysOf days flights.now }
         requires grid { IsGridOf flights.now serving.grid }
         requires session { (1 ≤ session) × (session ≤ 8) }
         requires today { IsCenturyDay desk.today }
@@ -67,6 +73,7 @@ impl<'a, D: Tape> OpenHost<'a, D> {
         OpenHost {
             flights,
             served,
+            days,
             serving,
             session,
             desk,
@@ -116,6 +123,7 @@ impl<'a, D: Tape> OpenHost<'a, D> {
         let OpenHost {
             flights: _,
             served: _,
+            days: _,
             serving,
             session: _,
             desk: _,
@@ -148,6 +156,7 @@ impl<'a, D: Tape> OpenHost<'a, D> {
         let OpenHost {
             flights,
             served,
+            days,
             serving,
             session,
             desk,
@@ -155,7 +164,7 @@ impl<'a, D: Tape> OpenHost<'a, D> {
         } = self;
         let meaning = desk.hear(line);
         answer_to(
-            rt, alloc, flights, served, serving, calls, *session, desk, meaning,
+            rt, alloc, flights, served, days, serving, calls, *session, desk, meaning,
         )
     }
 }

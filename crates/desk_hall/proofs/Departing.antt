@@ -1,17 +1,16 @@
 -- Legs that departed and have a class open, one by one.
-use Rattle.std.proofs.Common.{◌≡◌, ℕ, zero, suc, ◌+◌, ◌<◌, ◌≤◌, Bool, true, false, cond, if◌then◌else◌, List, [], ◌∷◌, ◌++◌, length, drop, get_or, refl, sym, ap, ◌∙◌, subst, arith, Option, Some, append_assoc, append-nil}
-use Rattle.std.specs.Prelude.{slice_get, All}
+use Rattle.std.proofs.Common.{◌≡◌, ℕ, suc, ◌+◌, ◌<◌, ◌≤◌, Bool, true, false, cond, if◌then◌else◌, List, [], ◌∷◌, ◌++◌, length, drop, get_or, refl, sym, ap, ◌∙◌, subst, arith, Some, append_assoc, append-nil}
+use Rattle.std.specs.Prelude.{slice_get}
 use Rattle.std.specs.List.{AllByRecursion}
 use Rattle.std.proofs.Math.ListN.{drop_of_length-le}
 use Rattle.std.proofs.lemmas.List.{drop_more}
 use Rattle.std.proofs.lemmas.Option.{get_or_from_slice_get, slice_get_within}
-use Rattle.desk_hall.proofs.Legs.{each_join}
 use Rattle.desk_hall.specs.Departed.{closing, closings_from, closings_on, has_open, is_left_open, AreOnLegs}
 use Rattle.seat_journal.specs.declared.entry.Control.{Control}
-use Rattle.seat_nesting.specs.Nesting.{Ladders, Steps}
+use Rattle.seat_nesting.specs.Nesting.{Ladders}
 use Rattle.seat_nesting.specs.declared.ladder.Step.{Step}
 use Rattle.seat_replies.specs.Changes.{IsLegOf, IsOnLeg}
-use Rattle.seat_replies.proofs.Rows.{all_of}
+use Rattle.seat_replies.proofs.Rows.{all_append, all_of}
 use Rattle.ssim_flights.specs.declared.flight.DatedLeg.{DatedLeg}
 use Rattle.ssim_flights.specs.declared.flight.Flight.{Flight as Flown}
 
@@ -78,7 +77,7 @@ module _ (flights : List Flown) (limits : Ladders) (today : ℕ) where
   legs_on flight leg [] are = tt
   legs_on flight leg (l ∷ legs) are =
       let first : leg + 0 ≡ leg = omega arith in
-      each_join (IsOnLeg flights) (if is_left_open limits today flight leg l then closing flight leg ∷ [] else [])
+      all_append (IsOnLeg flights) (if is_left_open limits today flight leg l then closing flight leg ∷ [] else [])
       (closings_on limits today flight (leg + 1) legs)
       (of (is_left_open limits today flight leg l) (subst (IsLegOf flights flight) first (are 0 (omega arith))))
       (legs_on flight (leg + 1) legs (λ i lt. let e : leg + suc i ≡ leg + 1 + i = omega arith in subst (IsLegOf flights flight) e (are (suc i) (omega (arith, lt)))))
@@ -93,7 +92,7 @@ module _ (flights : List Flown) (limits : Ladders) (today : ℕ) where
   flights_on n (f ∷ fs) are =
       let first : n + 0 ≡ n = omega arith in
       let at : slice_get flights n ≡ Some f = ap (slice_get flights) (sym first) ∙ are 0 f refl in
-      each_join (IsOnLeg flights) (closings_on limits today n 0 f.legs) (closings_from limits today (n + 1) fs)
+      all_append (IsOnLeg flights) (closings_on limits today n 0 f.legs) (closings_from limits today (n + 1) fs)
       (legs_on n 0 f.legs (λ i lt. let e : i ≡ 0 + i = omega arith in subst (IsLegOf flights n) e (record { flown = f; at = at; there = lt })))
       (flights_on (n + 1) fs (λ i g e. let same : n + suc i ≡ n + 1 + i = omega arith in ap (slice_get flights) (sym same) ∙ are (suc i) g e))
 

@@ -6,5 +6,6 @@ pub mod Ordered
 pub mod Pieces
 pub mod Planned
 pub mod Rows
+pub mod Shut
 pub mod Told
 pub mod ToldRows

@@ -1,5 +1,5 @@
 -- Rows of the manager.
-use Rattle.std.proofs.Common.{◌≡◌, ℕ, ◌+◌, ◌≤◌, ◌<◌, Bool, true, false, nat_lt, List, [], ◌∷◌, length, get_or, refl, ap, sym, ◌∙◌, subst, arith}
+use Rattle.std.proofs.Common.{◌≡◌, ℕ, ◌≤◌, ◌<◌, Bool, true, false, nat_lt, List, [], ◌∷◌, length, get_or, ap, sym, ◌∙◌, subst, arith}
 use Rattle.std.specs.Prelude.{Option, Some, None}
 use Rattle.std.proofs.lemmas.Bool.Decides.{nat_tests}
 use Rattle.desk_hall.specs.Orders.{IsCallBy, IsCalled, IsLegless, IsNumbered, IsOrder, IsOrderBy, IsRightOrder, IsRow, IsRowOf, IsUnnamed, is_for_desk, numbered_order, order_by_epoch}
@@ -12,27 +12,31 @@ use Rattle.desk_lines.specs.Lines.{is_numbered, next_number}
 use Rattle.desk_lines.specs.declared.desk.Desk.{Desk}
 use Rattle.desk_lines.specs.declared.desk.Meaning.TheVariants.{Wrong}
 use Rattle.desk_lines.specs.declared.desk.Wrong.TheVariants as faults
-use Rattle.desk_hall.proofs.Legs.{control_on, each_sets, none_is, one_is}
+use Rattle.desk_hall.proofs.Legs.{each_sets, none_is, one_is}
 use Rattle.seat_journal.specs.declared.entry.Control.{Control}
 use Rattle.seat_limits.specs.ChangeRows.{IsChangeText}
 use Rattle.seat_limits.specs.declared.change_row.ChangeRow.{ChangeRow}
-use Rattle.seat_replies.specs.Changes.{all_served, and_those, changes_of}
+use Rattle.seat_replies.specs.Changes.{AreServed, all_served, and_those, changes_of}
+use Rattle.seat_replies.proofs.Changing.{on_legs_all}
 use Rattle.ssim_flights.specs.declared.flight.Flight.{Flight as Flown}
 
 -- ---- rows
 
 -- one that is for one leg
+served_one : (flights : List Flown) (rows : List ChangeRow) (row : ChangeRow) (control : Control) → rows ≡ row ∷ []
+    → control_of flights row ≡ Some control → AreServed flights rows (control ∷ [])
+served_one flights rows row control is at =
+    ap (all_served flights) is ∙ ap (λ (o : Option (List Control)). and_those o (Some [])) (one_is (changes_of flights row) control at)
+
 pub row_made : (flights : List Flown) (text : List ℕ) (rows : List ChangeRow) (row : ChangeRow) (control : Control)
     → IsChangeText text rows → rows ≡ row ∷ [] → control_of flights row ≡ Some control → IsRowOf flights text control
-row_made flights text rows row control are is at = record {
-  rows = rows;
-  are_rows = are;
-  served = ap (all_served flights) is ∙ ap (λ (o : Option (List Control)). and_those o (Some [])) (one_is (changes_of flights row) control at);
-}
+row_made flights text rows row control are is at =
+    record { rows = rows; are_rows = are; served = served_one flights rows row control is at }
 
 pub row_right : (flights : List Flown) (text : List ℕ) (rows : List ChangeRow) (row : ChangeRow) (control : Control)
     → IsChangeText text rows → rows ≡ row ∷ [] → control_of flights row ≡ Some control → IsRightOrder flights (Row control)
-row_right flights text rows row control are is at = control_on flights text rows row control are is at
+row_right flights text rows row control are is at =
+    (on_legs_all flights text rows (control ∷ []) are (served_one flights rows row control is at)).0
 
 -- one that is for none, or for several
 pub row_legless : (flights : List Flown) (text : List ℕ) (rows : List ChangeRow) (row : ChangeRow)

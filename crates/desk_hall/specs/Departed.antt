@@ -1,13 +1,29 @@
--- What a host closes by itself: each leg that departed before a day, and has a class open still.
-use Rattle.std.specs.Prelude.{ℕ, ◌+◌, ◌&&◌, nat_lt, Bool, true, false, if◌then◌else◌, List, [], ◌∷◌, ◌++◌, Option, None, All}
+-- What a host closes by itself behind a day of the manager's: each leg that departed before it, and has a class open still.
+use Rattle.std.specs.Prelude.{◌≡◌, ℕ, ◌+◌, ◌&&◌, nat_lt, Bool, true, false, if◌then◌else◌, List, [], ◌∷◌, ◌++◌, map, Option, None, All}
 use Rattle.desk_hall.specs.Halls.{Hallful}
+use Rattle.desk_hall.specs.Planning.{control_asked}
+use Rattle.desk_hall.specs.declared.turn.Turn.{Turn}
+use Rattle.desk_hall.specs.declared.turn.Turn.TheVariants.{Stands}
 use Rattle.seat_journal.specs.declared.entry.Control.{Control}
 use Rattle.seat_journal.specs.declared.entry.Control.TheVariants.{ToSale}
+use Rattle.seat_journal.specs.declared.entry.Entry.{Entry}
 use Rattle.seat_nesting.specs.Nesting.{Ladders, Steps, ladder_at}
 use Rattle.seat_replies.specs.Changes.{IsOnLeg}
 use Rattle.seat_rules.specs.Journal.{replay}
+use Rattle.seat_serving.specs.Answering.{behind}
 use Rattle.ssim_flights.specs.declared.flight.DatedLeg.{DatedLeg}
 use Rattle.ssim_flights.specs.declared.flight.Flight.{Flight as Flown}
+
+-- the manager gave a day: it is told where it stands on the one that holds
+abbrev pub gives_day : Turn → Bool
+gives_day (Stands day epoch) = true
+gives_day turn = false
+
+-- and nothing else was heard
+abbrev pub is_day_given : List Turn → Bool
+is_day_given [] = false
+is_day_given (turn ∷ []) = gives_day turn
+is_day_given (turn ∷ more ∷ turns) = false
 
 -- a class of these steps is open
 abbrev pub has_open : Steps → Bool
@@ -40,3 +56,14 @@ pub record AreOnLegs (flights : List Flown) (controls : List Control) : Type 0 w
 -- before the day of the host, by the limits after all the lines that are there
 abbrev pub closings : {D : Type 0} → Hallful D → List Control
 closings hall = closings_from (replay hall.serving.grid hall.serving.journal).grid hall.today 0 hall.flights
+
+-- ---- a law
+
+-- the limits behind the lines that these make
+abbrev pub limits_behind : Ladders → List Entry → List Control → Ladders
+limits_behind grid journal controls = (replay grid (behind grid journal (map control_asked controls))).grid
+
+-- behind the lines that the closings make none is left to be made
+abbrev pub ClosingsCloseAll : Type 0
+ClosingsCloseAll = (grid : Ladders) (journal : List Entry) (today : ℕ) (flights : List Flown)
+    → closings_from (limits_behind grid journal (closings_from (replay grid journal).grid today 0 flights)) today 0 flights ≡ []

@@ -3,6 +3,7 @@ ghost use Rattle.std.specs.Prelude.{◌≡◌, ◌≤◌, ◌-◌, ◌+◌, ◌�
 ghost use Rattle.std.specs.Prelude.{option_to_list};
 ghost use Rattle.airline_base.specs.Days.{IsCenturyDay};
 ghost use Rattle.airline_base.specs.Noting.{noted};
+ghost use Rattle.flight_days.specs.Leaving.{AreDaysOf};
 ghost use Rattle.seat_desk.specs.Loading.{IsGridOf};
 ghost use Rattle.seat_disk.specs.Growing.{KeepsFront};
 ghost use Rattle.seat_recovery.specs.OpenText.{open_text};
@@ -12,7 +13,7 @@ ghost use Rattle.seat_serving.specs.declared.serving.ServeFault.TheVariants.{Dev
 ghost use Rattle.desk_answers.specs.Hosts.{IsReady};
 ghost use Rattle.desk_hall.specs.Booking.{IsBehindSome};
 ghost use Rattle.desk_hall.specs.Halls.{lines_behind, HasHeardLine, IsHeardBy, IsOpened, IsOrdered, IsPassed, IsPiece, IsSameHall, IsSameHost, IsSet, IsToldTo, IsUnheard, IsUnordered};
-ghost use Rattle.desk_hall.specs.Departed.{closings, AreOnLegs};
+ghost use Rattle.desk_hall.specs.Departed.{closings, is_day_given, AreOnLegs};
 ghost use Rattle.desk_hall.specs.Pieces.{again_asked, backlog_of};
 ghost use Rattle.seat_replies.specs.Changes.{IsOnLeg};
 ghost use Rattle.desk_lines.specs.Lines.{IsRightMeaning};
@@ -26,11 +27,12 @@ use crate::ordering::{day_behind, goes_on, plan_of_order, plan_row};
 use crate::orders::order_of;
 use crate::planning::{Plan, plan_of};
 use crate::telling::told_by;
-use crate::turn::Turn;
+use crate::turn::{Turn, is_day_given};
 use airimp_lines::{FlightClass, LineFault, Look, Request, ScriptKind, Segment};
 use airline_base::{Class, Day, Memory};
 use desk_calls::CallIndex;
 use desk_lines::{Desk, Meaning, Standing, Wrong};
+use flight_days::DayFlights;
 use seat_disk::Tape;
 use seat_journal::{Change, Control, SaleChange, Work};
 use seat_serving::{Asked, ServeFault, Serving};
@@ -44,6 +46,7 @@ use std::sync::Wait;
 pub struct Hall<'a, D: Tape> {
     flights: &'a Flights,
     served: Served<'a>,
+    days: DayFlights,
     serving: Serving<D>,
     today: Day,
     desks: Vec<Desk>,
@@ -56,6 +59,7 @@ pub struct Hall<'a, D: Tape> {
 
 impl<'a, D: Tape> Model for Hall<'a, D> {
     ghost use Rattle.desk_hall.specs.Halls.{Hallful, IsHall};
+    ghost use Rattle.flight_days.specs.Leaving.{AreDaysOf};
 
     ghost Value = { Hallful D };
 
@@ -70,15 +74,17 @@ impl<'a, D: Tape> Model for Hall<'a, D> {
       backlogs = s.backlogs;
     } };
 
-    ghost invariant = { λ s. IsHall s.flights.now s.served s.serving s.today s.desks.items s.calls.items s.asked.items };
+    ghost invariant = { λ s. IsHall s.flights.now s.served s.serving s.today s.desks.items s.calls.items s.asked.items
+        × AreDaysOf s.days s.flights.now };
 }
 
 impl<'a, D: Tape> Hall<'a, D> {
-    /// Over flights and an inventory of their legs. The first desk is that of session 1, and so on; the first index of calls is the
+    /// Over flights, those of each day, and an inventory of their legs. The first desk is that of session 1, and so on; the first index of calls is the
     /// manager's, and each desk has one.
     pub fn over(
         flights: &'a Flights,
         served: Served<'a>,
+        days: DayFlights,
         serving: Serving<D>,
         today: Day,
         desks: Vec<Desk>,
@@ -88,6 +94,7 @@ impl<'a, D: Tape> Hall<'a, D> {
         turns: Vec<Turn>,
     ) -> Hall<'a, D>
         requires served { served ≡ flights.now }
+        requires days { AreDaysOf days flights.now }
         requires grid { IsGridOf flights.now serving.grid }
         requires today { IsCenturyDay today }
         requires few { length desks.items ≤ 8 }
@@ -103,6 +110,7 @@ impl<'a, D: Tape> Hall<'a, D> {
         Hall {
             flights,
             served,
+            days,
             serving,
             today,
             desks,
@@ -170,6 +178,7 @@ impl<'a, D: Tape> Hall<'a, D> {
         let Hall {
             flights: _,
             served: _,
+            days: _,
             serving,
             today: _,
             desks: _,
@@ -195,6 +204,7 @@ impl<'a, D: Tape> Hall<'a, D> {
         let Hall {
             flights,
             served,
+            days: _,
             serving,
             today,
             desks,
@@ -234,6 +244,7 @@ impl<'a, D: Tape> Hall<'a, D> {
         let Hall {
             flights,
             served,
+            days,
             serving,
             today,
             desks: _,
@@ -244,12 +255,19 @@ impl<'a, D: Tape> Hall<'a, D> {
             backlogs: _,
         } = self;
         manager.today = *today;
-        let order = order_of(alloc, flights, served, manager, line, is_earlier)?;
+        let order = order_of(alloc, flights, served, days, manager, line, is_earlier)?;
         let day = day_behind(*today, &order);
         let plan = plan_of_order(flights, serving, asked.as_slice(), manager, day, order);
         add(asked, turns, &plan)?;
         *today = day;
         Ok(goes_on(&order))
+    }
+
+    /// Whether the manager gave a day, and nothing else was heard.
+    pub fn is_day_given(&self) -> bool
+        ensures { result ≡ is_day_given self.now.turns }
+    {
+        is_day_given(self.turns.as_slice())
     }
 
     /// A closing for each leg that departed before the day of the host and has a class open still, in the order of flight and leg.
@@ -271,6 +289,7 @@ impl<'a, D: Tape> Hall<'a, D> {
         let Hall {
             flights,
             served: _,
+            days: _,
             serving,
             today: _,
             desks: _,
@@ -305,6 +324,7 @@ impl<'a, D: Tape> Hall<'a, D> {
         let Hall {
             flights: _,
             served: _,
+            days: _,
             serving,
             today: _,
             desks: _,
@@ -331,6 +351,7 @@ impl<'a, D: Tape> Hall<'a, D> {
         let Hall {
             flights,
             served,
+            days,
             serving,
             today: _,
             desks: _,
@@ -345,6 +366,7 @@ impl<'a, D: Tape> Hall<'a, D> {
             alloc,
             flights,
             served,
+            days,
             serving,
             index,
             session,

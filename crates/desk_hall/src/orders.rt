@@ -2,6 +2,7 @@
 ghost use Rattle.std.specs.Prelude.{◌≡◌, ◌+◌, ◌≤◌, ◌<◌, ◌^◌, List, length, nat_lt, option_map, true, IfOk, IfSome};
 ghost use Rattle.seat_limits.specs.ChangeRows.{IsChangeText};
 ghost use Rattle.airline_base.specs.Days.{IsCenturyDay, civil_in};
+ghost use Rattle.flight_days.specs.Leaving.{AreDaysOf};
 ghost use Rattle.desk_lines.specs.Calls.{call_at};
 ghost use Rattle.desk_lines.specs.Lines.{is_numbered, is_word};
 ghost use Rattle.desk_lines.specs.Words.{count_at};
@@ -13,6 +14,7 @@ use airline_base::fields::{byte_of, digits_of, two_are, two_value, value_of, wor
 use airline_base::lines::cut_line;
 use airline_base::{Day, Memory};
 use desk_lines::{Desk, Meaning, Standing, Wrong, by_epoch};
+use flight_days::DayFlights;
 use seat_journal::Control;
 use seat_limits::{ChangeRow, LimitKind, read_changes};
 use ssim_flights::{Flights, Served};
@@ -80,11 +82,13 @@ pub fn order_of(
     alloc: Global,
     flights: &Flights,
     served: &Served<'_>,
+    days: &DayFlights,
     manager: &mut Desk,
     line: &[u8],
     is_earlier: bool,
 ) -> Result<Order, Memory>
     requires served { served.now ≡ flights.now }
+    requires days { AreDaysOf days.now flights.now }
     requires today { IsCenturyDay manager.old.today }
     ensures means { IfOk result (IsOrder is_earlier served.now manager.old manager.new line.now) }
     ensures right { IfOk result (IsRightOrder served.now) }
@@ -97,7 +101,7 @@ pub fn order_of(
     }
     manager.lines = manager.lines.saturating_add(1);
     let (text, _) = cut_line(line);
-    let order = unnamed_order(alloc, flights, served, text)?;
+    let order = unnamed_order(alloc, flights, served, days, text)?;
     Ok(order_by_epoch(manager.is_stranger, order))
 }
 
@@ -237,17 +241,19 @@ fn unnamed_order(
     alloc: Global,
     flights: &Flights,
     served: &Served<'_>,
+    days: &DayFlights,
     text: &[u8],
 ) -> Result<Order, Memory>
     requires served { served.now ≡ flights.now }
+    requires days { AreDaysOf days.now flights.now }
     ensures means { IfOk result (IsUnnamed (is_numbered text.now) served.now text.now) }
     ensures right { IfOk result (IsRightOrder served.now) }
     ensures century { IfOk result IsOfCentury }
 {
     if is_numbered(text) {
-        return call_order(alloc, flights, served, text);
+        return call_order(alloc, flights, served, days, text);
     }
-    row_order(alloc, flights, served, text)
+    row_order(alloc, flights, served, days, text)
 }
 
 fn is_numbered(text: &[u8]) -> bool
@@ -265,9 +271,11 @@ fn call_order(
     alloc: Global,
     flights: &Flights,
     served: &Served<'_>,
+    days: &DayFlights,
     text: &[u8],
 ) -> Result<Order, Memory>
     requires served { served.now ≡ flights.now }
+    requires days { AreDaysOf days.now flights.now }
     ensures means { IfOk result (IsCallBy (nat_lt 256 (length text.now)) served.now text.now) }
     ensures right { IfOk result (IsRightOrder served.now) }
     ensures century { IfOk result IsOfCentury }
@@ -278,7 +286,7 @@ fn call_order(
     let Some((call, row)) = call_of(text) else {
         return Ok(Order::Said(Meaning::Wrong(Wrong::Word)));
     };
-    numbered_row(alloc, flights, served, call, row)
+    numbered_row(alloc, flights, served, days, call, row)
 }
 
 // What the row asks for, as the call of this number.
@@ -287,15 +295,17 @@ fn numbered_row(
     alloc: Global,
     flights: &Flights,
     served: &Served<'_>,
+    days: &DayFlights,
     call: u32,
     row: &[u8],
 ) -> Result<Order, Memory>
     requires served { served.now ≡ flights.now }
+    requires days { AreDaysOf days.now flights.now }
     ensures means { IfOk result (IsNumbered served.now call row.now) }
     ensures right { IfOk result (IsRightOrder served.now) }
     ensures century { IfOk result IsOfCentury }
 {
-    let plain = row_order(alloc, flights, served, row)?;
+    let plain = row_order(alloc, flights, served, days, row)?;
     match plain {
         Order::Said(meaning) => Ok(Order::Said(numbered_meaning(call, meaning))),
         Order::Row(control) => Ok(Order::RowCall(call, control)),
@@ -348,9 +358,11 @@ fn row_order(
     alloc: Global,
     flights: &Flights,
     served: &Served<'_>,
+    days: &DayFlights,
     text: &[u8],
 ) -> Result<Order, Memory>
     requires served { served.now ≡ flights.now }
+    requires days { AreDaysOf days.now flights.now }
     ensures means { IfOk result (IsRow served.now text.now) }
     ensures right { IfOk result (IsRightOrder served.now) }
     ensures century { IfOk result IsOfCentury }
@@ -359,7 +371,7 @@ fn row_order(
         return Ok(Order::Said(Meaning::Wrong(Wrong::TooLong)));
     }
     match read_changes(alloc, text) {
-        Ok(rows) => rows_order(flights, served, text, rows.as_slice()),
+        Ok(rows) => rows_order(alloc, flights, served, days, text, rows.as_slice()),
         Err(fault) => match fault.kind {
             LimitKind::Memory => Err(Memory),
             kind => Ok(Order::Refused(RowFault::Malformed(kind))),
@@ -370,12 +382,15 @@ fn row_order(
 // What the only row sets. Where there is none the line was empty.
 #[tactic(auto, using(crate::proofs::Rows::row_made, crate::proofs::Rows::row_right, crate::proofs::Rows::row_legless, crate::proofs::Rows::rows_legless))]
 fn rows_order(
+    alloc: Global,
     flights: &Flights,
     served: &Served<'_>,
+    days: &DayFlights,
     text: &[u8],
     rows: &[ChangeRow],
 ) -> Result<Order, Memory>
     requires served { served.now ≡ flights.now }
+    requires days { AreDaysOf days.now flights.now }
     requires rows { IsChangeText text.now rows.now }
     requires short { length text.now ≤ 256 }
     ensures means { IfOk result (IsRow served.now text.now) }
@@ -384,7 +399,7 @@ fn rows_order(
 {
     match rows {
         [] => Ok(Order::Said(Meaning::Nothing)),
-        [row] => match control_of(flights, served, row) {
+        [row] => match control_of(alloc, flights, served, days, row)? {
             Some(control) => Ok(Order::Row(control)),
             None => Ok(Order::Refused(RowFault::NoLeg)),
         },

@@ -1,4 +1,7 @@
 //! What a line of a desk comes to.
+ghost use Rattle.std.specs.Prelude.{◌≡◌};
+ghost use Rattle.desk_hall.specs.Departed.{gives_day, is_day_given};
+
 use crate::orders::RowFault;
 use airimp_lines::Request;
 use airline_base::Day;
@@ -24,4 +27,20 @@ pub enum Turn {
     RefusedCall(RowFault, u32),
     /// By where the manager stands on this day, at a journal of this epoch.
     Stands(Day, u32),
+}
+
+/// Whether the manager gave a day, and nothing else was heard.
+pub(crate) fn is_day_given(turns: &[Turn]) -> bool
+    ensures { result ≡ is_day_given turns.now }
+{
+    match turns {
+        [turn] => gives_day(turn),
+        _ => false,
+    }
+}
+
+fn gives_day(turn: &Turn) -> bool
+    ensures { result ≡ gives_day turn.now }
+{
+    matches!(turn, Turn::Stands(_, _))
 }

@@ -12,7 +12,7 @@ use crate::season::Season;
 use crate::window::Window;
 use airimp_lines::Look;
 use airline_base::Memory;
-use desk_answers::seen_by_day;
+use desk_answers::seen;
 use seat_display::Sight;
 use ssim_flights::Served;
 use std::alloc::Global;
@@ -88,7 +88,7 @@ impl<'a> Asking for Question<'a> {
     fn answer(&self, sight: &Sight, lines: u32) -> Result<Vec<u8>, Memory> {
         let grid = self.season.grid();
         let glance = Glance { sight, grid, lines };
-        seen_by_day(
+        seen(
             self.alloc,
             self.season.flights(),
             self.served,

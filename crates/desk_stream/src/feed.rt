@@ -1,6 +1,7 @@
 //! A feed over an inventory with its file.
 ghost use Rattle.std.specs.Prelude.{◌≡◌, ◌≤◌, [], false, length, None, IfErr, IfOk, OnErr, OnOk};
 ghost use Rattle.airline_base.specs.Noting.{noted};
+ghost use Rattle.flight_days.specs.Leaving.{AreDaysOf};
 ghost use Rattle.seat_desk.specs.FlightsDesk.{IsText};
 ghost use Rattle.seat_desk.specs.Loading.{IsGridOf};
 ghost use Rattle.seat_disk.specs.Growing.{KeepsFront};
@@ -26,6 +27,7 @@ use desk_calls::CallIndex;
 use desk_feed::Progress;
 use desk_hall::book;
 use desk_lines::Desk;
+use flight_days::DayFlights;
 use seat_disk::Tape;
 use seat_serving::{Asked, ServeFault, Serving};
 use ssim_flights::{Flights, Served};
@@ -38,6 +40,7 @@ use std::sync::Wait;
 pub struct Feed<'a, D: Tape> {
     flights: &'a Flights,
     served: Served<'a>,
+    days: DayFlights,
     serving: Serving<D>,
     epoch: u32,
     reading: Reading,
@@ -48,6 +51,7 @@ pub struct Feed<'a, D: Tape> {
 
 impl<'a, D: Tape> Model for Feed<'a, D> {
     ghost use Rattle.desk_stream.specs.Feeds.{Feeding, IsFeed};
+    ghost use Rattle.flight_days.specs.Leaving.{AreDaysOf};
 
     ghost Value = { Feeding D };
 
@@ -60,16 +64,18 @@ impl<'a, D: Tape> Model for Feed<'a, D> {
       pending = s.pending;
     } };
 
-    ghost invariant = { λ s. IsFeed s.flights.now s.served s.serving s.reading s.desks.items s.calls.items s.pending };
+    ghost invariant = { λ s. IsFeed s.flights.now s.served s.serving s.reading s.desks.items s.calls.items s.pending
+        × AreDaysOf s.days s.flights.now };
 }
 
 impl<'a, D: Tape> Feed<'a, D> {
-    /// Over flights, an inventory of their legs whose journal is of this epoch, and how far the feed had come when it is sent from
+    /// Over flights, those of each day, an inventory of their legs whose journal is of this epoch, and how far the feed had come when it is sent from
     /// here on. The manager has the first desk and the first index of calls, and each of the eight sessions one. Nothing was heard.
     #[tactic(auto, using(crate::proofs::Feeds::feed_over))]
     pub fn over(
         flights: &'a Flights,
         served: Served<'a>,
+        days: DayFlights,
         serving: Serving<D>,
         epoch: u32,
         progress: Progress,
@@ -79,6 +85,7 @@ impl<'a, D: Tape> Feed<'a, D> {
         turns: Vec<FeedTurn>,
     ) -> Feed<'a, D>
         requires served { served ≡ flights.now }
+        requires days { AreDaysOf days flights.now }
         requires grid { IsGridOf flights.now serving.grid }
         requires desks { (length desks.items ≡ 9) × (length calls.items ≡ 9) }
         requires none { (asked.items ≡ []) × (turns.items ≡ []) }
@@ -94,6 +101,7 @@ impl<'a, D: Tape> Feed<'a, D> {
         Feed {
             flights,
             served,
+            days,
             serving,
             epoch,
             reading: Reading {
@@ -146,6 +154,7 @@ impl<'a, D: Tape> Feed<'a, D> {
         let Feed {
             flights: _,
             served: _,
+            days: _,
             serving,
             epoch: _,
             reading: _,
@@ -172,6 +181,7 @@ impl<'a, D: Tape> Feed<'a, D> {
         let Feed {
             flights,
             served,
+            days,
             serving,
             epoch,
             reading,
@@ -185,7 +195,7 @@ impl<'a, D: Tape> Feed<'a, D> {
         *reading = behind;
         let is_own = is_of(reading, own);
         match hear_step(
-            alloc, flights, served, serving, is_own, desks, pending, step, line,
+            alloc, flights, served, days, serving, is_own, desks, pending, step, line,
         ) {
             Ok(()) => Ok(()),
             Err(fault) => Err(fault),
@@ -216,6 +226,7 @@ impl<'a, D: Tape> Feed<'a, D> {
         let Feed {
             flights: _,
             served: _,
+            days: _,
             serving,
             epoch: _,
             reading: _,
@@ -248,6 +259,7 @@ impl<'a, D: Tape> Feed<'a, D> {
         let Feed {
             flights,
             served,
+            days,
             serving,
             epoch: _,
             reading: _,
@@ -259,6 +271,7 @@ impl<'a, D: Tape> Feed<'a, D> {
             alloc,
             flights,
             served,
+            days,
             serving,
             calls,
             pending.turns.as_slice(),

@@ -2,6 +2,7 @@
 ghost use Rattle.std.specs.Prelude.{◌≡◌, ◌≤◌, ◌<◌, ◌+◌, ◌++◌, ◌∷◌, [], drop, length, slice_get, true, Some, IfErr, IfOk, OnErr, OnOk};
 ghost use Rattle.std.specs.Prelude.{option_to_list};
 ghost use Rattle.airline_base.specs.Days.{IsCenturyDay};
+ghost use Rattle.flight_days.specs.Leaving.{AreDaysOf};
 ghost use Rattle.seat_desk.specs.Loading.{IsGridOf};
 ghost use Rattle.seat_serving.specs.Answering.{AreRight};
 ghost use Rattle.desk_stream.specs.Hearing.{ahead_of, come_to, ComesBy, ComesTo, HasHeardAt, IsCameTo, IsNoStranger, IsOwnCall, IsOwnOf, IsOwnStep, IsPlanned, IsRightPlan, IsSamePending, CallsBy, HearsBy, IsStrangeBy, IsStrangeCall, IsStrangeStep, IsStrangeTo, IsWaiting};
@@ -19,6 +20,7 @@ use airline_base::{Class, Day, Memory};
 use desk_feed::Progress;
 use desk_hall::order_of;
 use desk_lines::Desk;
+use flight_days::DayFlights;
 use seat_disk::Tape;
 use seat_journal::{SaleChange, Work};
 use seat_serving::{Asked, Serving};
@@ -48,6 +50,7 @@ pub(crate) fn hear_step<D: Tape>(
     alloc: Global,
     flights: &Flights,
     served: &Served<'_>,
+    days: &DayFlights,
     serving: &Serving<D>,
     is_own: bool,
     desks: &mut Vec<Desk>,
@@ -56,6 +59,7 @@ pub(crate) fn hear_step<D: Tape>(
     line: &[u8],
 ) -> Result<(), FeedFault>
     requires served { served.now ≡ flights.now }
+    requires days { AreDaysOf days.now flights.now }
     requires grid { IsGridOf flights.now serving.now.grid }
     requires right { IsRightStep line.now step }
     requires desks { length desks.old.items ≡ 9 }
@@ -79,7 +83,7 @@ pub(crate) fn hear_step<D: Tape>(
         Step::Line(session, today) => {
             let rest = behind_lead(line);
             match hear_line(
-                alloc, flights, served, serving, is_own, desks, pending, session, today, rest,
+                alloc, flights, served, days, serving, is_own, desks, pending, session, today, rest,
             ) {
                 Ok(()) => Ok(()),
                 Err(fault) => Err(fault),
@@ -102,6 +106,7 @@ fn hear_line<D: Tape>(
     alloc: Global,
     flights: &Flights,
     served: &Served<'_>,
+    days: &DayFlights,
     serving: &Serving<D>,
     is_own: bool,
     desks: &mut Vec<Desk>,
@@ -111,6 +116,7 @@ fn hear_line<D: Tape>(
     line: &[u8],
 ) -> Result<(), FeedFault>
     requires served { served.now ≡ flights.now }
+    requires days { AreDaysOf days.now flights.now }
     requires grid { IsGridOf flights.now serving.now.grid }
     requires today { IsCenturyDay today }
     requires session { (session ≤ 8) × (length desks.old.items ≡ 9) }
@@ -125,7 +131,8 @@ fn hear_line<D: Tape>(
     ensures waiting { IsWaiting serving.now pending.new }
     ensures desks { length desks.new.items ≡ 9 }
 {
-    let Ok((desk, meant)) = hear_at(alloc, flights, served, desks, session, today, line) else {
+    let Ok((desk, meant)) = hear_at(alloc, flights, served, days, desks, session, today, line)
+    else {
         return Err(FeedFault::Memory);
     };
     match come_by(
@@ -142,12 +149,14 @@ fn hear_at(
     alloc: Global,
     flights: &Flights,
     served: &Served<'_>,
+    days: &DayFlights,
     desks: &mut Vec<Desk>,
     session: u8,
     today: Day,
     line: &[u8],
 ) -> Result<(Desk, Meant), Memory>
     requires served { served.now ≡ flights.now }
+    requires days { AreDaysOf days.now flights.now }
     requires today { IsCenturyDay today }
     requires session { (session ≤ 8) × (length desks.old.items ≡ 9) }
     ensures heard { IfOk result (λ r. HasHeardAt flights.now desks.old.items desks.new.items session today line.now r.0 r.1) }
@@ -157,7 +166,7 @@ fn hear_at(
 {
     let mut desk = desk_at(desks.as_slice(), session);
     desk.today = today;
-    let meant = match meant_of(alloc, flights, served, &mut desk, session, line) {
+    let meant = match meant_of(alloc, flights, served, days, &mut desk, session, line) {
         Ok(meant) => meant,
         Err(_) => return Err(Memory),
     };
@@ -177,18 +186,20 @@ fn meant_of(
     alloc: Global,
     flights: &Flights,
     served: &Served<'_>,
+    days: &DayFlights,
     desk: &mut Desk,
     session: u8,
     line: &[u8],
 ) -> Result<Meant, Memory>
     requires served { served.now ≡ flights.now }
+    requires days { AreDaysOf days.now flights.now }
     requires today { IsCenturyDay desk.old.today }
     ensures meant { IfOk result (IsMeant flights.now session desk.old desk.new line.now) }
     ensures right { IfOk result (IsRightMeant flights.now session) }
     ensures manager { OnErr result (session ≡ 0) }
 {
     if session == 0 {
-        let order = order_of(alloc, flights, served, desk, line, false)?;
+        let order = order_of(alloc, flights, served, days, desk, line, false)?;
         return Ok(ordered(served, desk, order));
     }
     let meaning = desk.hear(line);

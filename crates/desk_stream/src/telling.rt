@@ -1,5 +1,6 @@
 //! What is told of a feed's lines: each line of it led by whom it is for.
 ghost use Rattle.std.specs.Prelude.{◌≡◌, ◌≤◌, ◌∷◌, ◌++◌, [], codes, length, IfOk, OnOk};
+ghost use Rattle.flight_days.specs.Leaving.{AreDaysOf};
 ghost use Rattle.seat_desk.specs.FlightsDesk.{IsText};
 ghost use Rattle.seat_desk.specs.Loading.{IsGridOf};
 ghost use Rattle.seat_replies.specs.RunDesk.{at_any};
@@ -8,6 +9,7 @@ ghost use Rattle.desk_stream.specs.Telling.{foreign_line, led, led_from, unled_l
 use airline_base::Memory;
 use desk_calls::CallIndex;
 use desk_hall::{Turn, turn_text};
+use flight_days::DayFlights;
 use seat_disk::Tape;
 use seat_serving::Serving;
 use ssim_flights::{Flights, Served};
@@ -35,11 +37,13 @@ pub(crate) fn told_of<D: Tape>(
     alloc: Global,
     flights: &Flights,
     served: &Served<'_>,
+    days: &DayFlights,
     serving: &Serving<D>,
     calls: &mut Vec<CallIndex>,
     turns: &[FeedTurn],
 ) -> Result<Vec<u8>, Memory>
     requires served { served.now ≡ flights.now }
+    requires days { AreDaysOf days.now flights.now }
     requires grid { IsGridOf flights.now serving.now.grid }
     requires calls { length calls.old.items ≡ 9 }
     ensures told { IfOk result (λ text. IsText (at_any (IsFeedTurn flights.now serving.now.grid serving.now.journal)) 0 turns.now
@@ -48,7 +52,7 @@ pub(crate) fn told_of<D: Tape>(
 {
     let mut text = Vec::new(alloc);
     for turn in turns {
-        let part = turn_told(alloc, flights, served, serving, calls, turn)?;
+        let part = turn_told(alloc, flights, served, days, serving, calls, turn)?;
         add_part(&mut text, &part)?;
     }
     Ok(text)
@@ -59,18 +63,20 @@ fn turn_told<D: Tape>(
     alloc: Global,
     flights: &Flights,
     served: &Served<'_>,
+    days: &DayFlights,
     serving: &Serving<D>,
     calls: &mut Vec<CallIndex>,
     turn: &FeedTurn,
 ) -> Result<Vec<u8>, Memory>
     requires served { served.now ≡ flights.now }
+    requires days { AreDaysOf days.now flights.now }
     requires grid { IsGridOf flights.now serving.now.grid }
     requires calls { length calls.old.items ≡ 9 }
     ensures told { IfOk result (λ text. IsFeedTurn flights.now serving.now.grid serving.now.journal turn.now text.items) }
     ensures calls { length calls.new.items ≡ 9 }
 {
     match turn {
-        FeedTurn::Desk(turn) => told_to_all(alloc, flights, served, serving, calls, turn),
+        FeedTurn::Desk(turn) => told_to_all(alloc, flights, served, days, serving, calls, turn),
         FeedTurn::Unknown(number) => unknown_text(alloc, *number),
         FeedTurn::Dayless(number) => dayless_text(alloc, *number),
         FeedTurn::Foreign(session, number) => foreign_text(alloc, *session, *number),
@@ -83,17 +89,21 @@ fn told_to_all<D: Tape>(
     alloc: Global,
     flights: &Flights,
     served: &Served<'_>,
+    days: &DayFlights,
     serving: &Serving<D>,
     calls: &mut Vec<CallIndex>,
     turn: &Turn,
 ) -> Result<Vec<u8>, Memory>
     requires served { served.now ≡ flights.now }
+    requires days { AreDaysOf days.now flights.now }
     requires grid { IsGridOf flights.now serving.now.grid }
     requires calls { length calls.old.items ≡ 9 }
     ensures told { IfOk result (λ text. IsLedTurn flights.now serving.now.grid serving.now.journal turn.now text.items) }
     ensures calls { length calls.new.items ≡ 9 }
 {
-    match told_to_each(alloc, flights, served, serving, calls, &SESSIONS, turn) {
+    match told_to_each(
+        alloc, flights, served, days, serving, calls, &SESSIONS, turn,
+    ) {
         Ok(text) => Ok(text),
         Err(fault) => Err(fault),
     }
@@ -105,12 +115,14 @@ fn told_to_each<D: Tape>(
     alloc: Global,
     flights: &Flights,
     served: &Served<'_>,
+    days: &DayFlights,
     serving: &Serving<D>,
     calls: &mut Vec<CallIndex>,
     sessions: &[u8],
     turn: &Turn,
 ) -> Result<Vec<u8>, Memory>
     requires served { served.now ≡ flights.now }
+    requires days { AreDaysOf days.now flights.now }
     requires grid { IsGridOf flights.now serving.now.grid }
     requires calls { length calls.old.items ≡ 9 }
     requires few { FewSessions sessions.now }
@@ -120,7 +132,7 @@ fn told_to_each<D: Tape>(
 {
     let mut text = Vec::new(alloc);
     for session in sessions {
-        let part = told_to(alloc, flights, served, serving, calls, *session, turn)?;
+        let part = told_to(alloc, flights, served, days, serving, calls, *session, turn)?;
         add_part(&mut text, &part)?;
     }
     Ok(text)
@@ -131,12 +143,14 @@ fn told_to<D: Tape>(
     alloc: Global,
     flights: &Flights,
     served: &Served<'_>,
+    days: &DayFlights,
     serving: &Serving<D>,
     calls: &mut Vec<CallIndex>,
     session: u8,
     turn: &Turn,
 ) -> Result<Vec<u8>, Memory>
     requires served { served.now ≡ flights.now }
+    requires days { AreDaysOf days.now flights.now }
     requires grid { IsGridOf flights.now serving.now.grid }
     requires calls { length calls.old.items ≡ 9 }
     requires session { session ≤ 8 }
@@ -144,7 +158,7 @@ fn told_to<D: Tape>(
     ensures calls { length calls.new.items ≡ 9 }
 {
     let index = &mut calls[usize::from(session)];
-    let plain = turn_text(alloc, flights, served, serving, index, session, turn)?;
+    let plain = turn_text(alloc, flights, served, days, serving, index, session, turn)?;
     match led(alloc, session, plain.as_slice()) {
         Ok(text) => Ok(text),
         Err(fault) => Err(fault),

@@ -2,6 +2,7 @@
 ghost use Rattle.std.specs.Prelude.{◌≡◌, ◌+◌, ◌<◌, ◌≤◌, ◌∷◌, All, ℕ, List, IfErr, IfOk, IfSome, IsTrue, OnOk, false, true, length, nat_lt};
 ghost use Rattle.std.specs.List.{AllByRecursion};
 ghost use Rattle.airline_base.specs.Days.{IsCenturyDay};
+ghost use Rattle.flight_days.specs.Leaving.{AreDaysOf};
 ghost use Rattle.desk_streaming.specs.Opening.{day_or, entries_in, is_entry, left_behind, one_if, IsFeedDay, NeedsDay};
 ghost use Rattle.desk_streaming.specs.Serving.{IsFeedOver, IsFreshAt, IsOfOpening};
 ghost use Rattle.desk_streaming.specs.declared.fault.FedFault.TheVariants.{Behind, Broken};
@@ -21,6 +22,7 @@ use desk_calls::CallIndex;
 use desk_feed::Progress;
 use desk_lines::Desk;
 use desk_stream::{Feed, first_day};
+use flight_days::DayFlights;
 use seat_disk::Tape;
 use seat_seal::{Beside, era_known, known_of};
 use ssim_flights::{Flights, Served};
@@ -53,10 +55,11 @@ pub(crate) fn feed_over<'a, R: Wait, D: Tape>(
     let Ok(parts) = parts_of(alloc, flights, today, epoch) else {
         return Err((FedFault::Broken(StreamFault::Memory), serving.close(rt)));
     };
-    let (served, desks, calls) = parts;
+    let (served, days, desks, calls) = parts;
     Ok(Feed::over(
         flights,
         served,
+        days,
         serving,
         epoch,
         progress,
@@ -185,21 +188,23 @@ fn ended(left: u32, opens: bool) -> Looking
     }
 }
 
-// The index of the flights, a desk for the manager and for each session, and an index of calls for each.
+// The index of the flights, those of each day, a desk for the manager and for each session, and an index of calls for each.
 fn parts_of<'a>(
     alloc: Global,
     flights: &'a Flights,
     today: Day,
     epoch: u32,
-) -> Result<(Served<'a>, Vec<Desk>, Vec<CallIndex>), Memory>
+) -> Result<(Served<'a>, DayFlights, Vec<Desk>, Vec<CallIndex>), Memory>
     ensures served { IfOk result (λ parts. parts.0 ≡ flights.now) }
-    ensures counts { IfOk result (λ parts. (length parts.1.items ≡ 9) × (length parts.2.items ≡ 9)) }
-    ensures fresh { IfOk result (λ parts. All (IsFreshAt epoch) parts.1.items) }
+    ensures days { IfOk result (λ parts. AreDaysOf parts.1 flights.now) }
+    ensures counts { IfOk result (λ parts. (length parts.2.items ≡ 9) × (length parts.3.items ≡ 9)) }
+    ensures fresh { IfOk result (λ parts. All (IsFreshAt epoch) parts.2.items) }
 {
     let served = Served::new(alloc, flights)?;
+    let days = DayFlights::new(alloc, flights)?;
     let desks = desks_on(alloc, today, epoch)?;
     let calls = no_calls(alloc)?;
-    Ok((served, desks, calls))
+    Ok((served, days, desks, calls))
 }
 
 // Whatever day this is: each line is heard on the feed's.

@@ -7,3 +7,5 @@ pub mod Serving
 pub mod Histories
 pub mod Segments
 pub mod Very
+pub mod Changing
+pub mod DayLegs

@@ -6,9 +6,11 @@
 mod laws;
 mod past;
 mod replies;
+mod row_changes;
 mod very_request;
 
 pub use laws::{commands_are_very_requests, requests_are_flown};
 pub use past::Past;
 pub use replies::{Answered, put_answer};
+pub use row_changes::{changes_between, changes_on_day};
 pub use very_request::{is_asked, is_very_request};

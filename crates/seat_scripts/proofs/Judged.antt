@@ -1,4 +1,4 @@
--- What the runs that a seal knows have against a run that goes on with scripts, as far as the inputs are known.
+-- What a seal has against a run that goes on with scripts, as far as the inputs are known.
 use Rattle.seat_journal.specs.declared.entry.Control.{Control}
 use Rattle.std.proofs.Common.{◌≡◌, ◌+◌, ◌||◌, ℕ, Bool, List, Option, Some, None, IfSome, length, sym, subst, ◌∙◌}
 use Rattle.seat_rules.specs.Inventory.{Inventory}
@@ -12,7 +12,7 @@ use Rattle.seat_scripts.proofs.Common.{DeskFault, Entry, Ladders, Request}
 use Rattle.seat_scripts.proofs.Beside.{if_four}
 use Rattle.seat_scripts.proofs.SealedBoth.{both_four}
 use Rattle.seat_scripts.specs.Against.{AreRead, IsOfReading, OfFour}
-use Rattle.seat_scripts.specs.Begun.{IsBehindRuns, IsJudged, IsRefusedByRuns, fault_of_runs}
+use Rattle.seat_scripts.specs.Begun.{IsBehindRuns, IsJudged, IsRefusedByRuns, fault_of_known}
 use Rattle.seat_scripts.specs.Both.{BothAgree}
 use Rattle.seat_replies.specs.Changes.{IsOfChanges}
 use Rattle.seat_scripts.specs.Resumed.{IsWholeAsked}
@@ -31,7 +31,7 @@ of_last Q (Some xs) None after journal q = tt
 of_last Q None limits after journal q = tt
 
 module _ (set limits after journal : Option (List ℕ)) (first days today : ℕ) (texts : List (Option (List ℕ))) (changing : Option (List ℕ)) (given : Option ℕ) (besides : Besides) (again : Bool) where
-  -- both agree, all is asked, and this is what the runs have against it
+  -- both agree, all is asked, and this is what the seal has against it
   pub refused_by_runs : (flights : List Flown) (grid : Ladders) (older lines : List Entry) (scripts : List (List Request)) (changes : List Control)
       (fault : DeskFault) (s : SealFault)
       → OfFour set limits after journal (λ xs ys old zs. BothAgree besides xs ys first days old zs)
@@ -61,7 +61,7 @@ module _ (set limits after journal : Option (List ℕ)) (first days today : ℕ)
       (λ xs ys old zs. IsWholeAsked xs ys first days today old zs texts changing flights grid older lines scripts changes × IsJudged (Some s) again given besides.journal old zs texts changing)
       set limits after journal (λ xs ys old zs a b. (a, b)) asked judged)
 
-  -- what they have against it
+  -- what it has against it
   pub judged : (flights : List Flown) (older core : Inventory) (scripts : List (List Request))
       → OfFour set limits after journal (λ xs ys old zs. AreRead xs ys first days old zs today texts flights older core scripts)
       → (known : Option Belonging) → IfSome journal (λ zs. IsKnown besides.journal zs known)
@@ -69,7 +69,7 @@ module _ (set limits after journal : Option (List ℕ)) (first days today : ℕ)
       → (one changed repeated : Bool) → IsOneBooked (scripts_booked (Some (length older.journal + more)) (runs_known known)) texts one
       → (lines : Option ℕ) → lines ≡ Some (length older.journal + more)
       → IsBookedOf (changes_booked lines (runs_known known)) changing changed → repeated ≡ (one || changed)
-      → (answer : Option SealFault) → fault_of_runs again given (length older.journal + more) (runs_known known) repeated ≡ answer
+      → (answer : Option SealFault) → fault_of_known again given (length older.journal + more) known repeated ≡ answer
       → OfFour set limits after journal (λ xs ys old zs. IsJudged answer again given besides.journal old zs texts changing)
   judged flights older core scripts read known is_known more count one changed repeated is_one lines counted is_changed both answer said =
       both_four (λ xs ys old zs. AreRead xs ys first days old zs today texts flights older core scripts)
@@ -89,10 +89,10 @@ module _ (set limits after journal : Option (List ℕ)) (first days today : ℕ)
               are_changes = subst (λ (l : Option ℕ). IsBookedOf (changes_booked l (runs_known known)) changing changed) counted is_changed;
               answer_is = both;
             });
-        answer_is = subst (λ (n : ℕ). fault_of_runs again given (length older.journal + n) (runs_known known) repeated ≡ answer) count said;
+        answer_is = subst (λ (n : ℕ). fault_of_known again given (length older.journal + n) known repeated ≡ answer) count said;
       }) read (of_last (λ zs. IsKnown besides.journal zs known) set limits after journal is_known)
 
--- ---- faults that stand behind what they have against it
+-- ---- faults that stand behind what the seal has against it
 
 pub is_input : (fault : DeskFault) → IsBehindRuns fault → IsOfInput fault
 is_input (Unasked session call) behind = tt

@@ -1,11 +1,11 @@
 -- What stands beside a journal, as far as the inputs are known, and what is refused behind it.
 use Rattle.seat_journal.specs.declared.entry.Control.{Control}
-use Rattle.std.proofs.Common.{◌≡◌, ◌≢◌, ◌≤◌, ◌<◌, ◌||◌, ◌⊎◌, ⊎_elim, inl, inr, ℕ, Bool, true, false, List, Option, Some, None, IfSome, length, subst, sym}
+use Rattle.std.proofs.Common.{◌≡◌, ◌≢◌, ◌≤◌, ◌<◌, ◌||◌, ◌⊎◌, ⊎_elim, inl, inr, ℕ, Bool, List, Option, Some, None, IfSome, length, subst, sym}
 use Rattle.ssim_flights.specs.declared.flight.Flight.{Flight as Flown}
 use Rattle.seat_seal.specs.Besides.{IsFaultBeside}
 use Rattle.seat_seal.specs.declared.beside.Basis.{Basis}
 use Rattle.seat_seal.specs.declared.beside.Beside.{Beside}
-use Rattle.seat_seal.specs.declared.comparing.SealFault.TheVariants.{Again}
+use Rattle.seat_seal.specs.declared.comparing.SealFault.{SealFault}
 use Rattle.seat_seal.specs.declared.seal.Sealed.{Sealed as Belonging}
 use Rattle.seat_desk.specs.declared.fault.DeskFault.TheVariants.{Book, Change as BadChange, NoLeg, Script, Seal}
 use Rattle.seat_desk.proofs.Grounds.{ground_of_loaded}
@@ -21,7 +21,7 @@ use Rattle.seat_replies.specs.Going.{IsPast}
 use Rattle.seat_replies.specs.Asked.{IsAsked, IsTooLargeRun}
 use Rattle.seat_seal.specs.Known.{IsCarried, IsKnown, carried_by, runs_known}
 use Rattle.seat_seal.specs.declared.known.Carried.{Carried}
-use Rattle.seat_scripts.specs.Repeated.{AreRepeated, IsRepeatedOf}
+use Rattle.seat_scripts.specs.Repeated.{AreRepeated, IsJudgedPastOf, fault_of_past}
 use Rattle.seat_replies.specs.RunDesk.{IsRefusedRun}
 use Rattle.seat_replies.specs.Requests.{IsOfScript}
 use Rattle.seat_replies.specs.Asked.{HasPast, HasScripts}
@@ -71,13 +71,14 @@ pub carried_of : (beside : Beside) (text : Option (List ℕ)) (last : Option Bel
 carried_of beside (Some xs) last carried is same = record { known = last; is_known = is; carried_is = same }
 carried_of beside None last carried is same = tt
 
--- whether a run that the seal knows booked one of these texts, where the journal's bytes are known
-pub repeated_of : (answer : Bool) (beside : Beside) (after : Option (List ℕ)) (texts : List (Option (List ℕ)))
-    (changing : Option (List ℕ)) (last : Option Belonging)
-    → IfSome after (λ zs. IsKnown beside zs last) → AreRepeated None (runs_known last) texts changing answer
-    → IsRepeatedOf answer beside after texts changing
-repeated_of answer beside (Some zs) texts changing last known are = record { known = last; is_known = known; are_repeated = are }
-repeated_of answer beside None texts changing last known are = tt
+-- what it has against a run with these texts, where the journal's bytes are known
+pub judged_past : (answer : Option SealFault) (again : Bool) (beside : Beside) (after : Option (List ℕ)) (texts : List (Option (List ℕ)))
+    (changing : Option (List ℕ)) (last : Option Belonging) → IfSome after (λ zs. IsKnown beside zs last)
+    → (repeated : Bool) → AreRepeated None (runs_known last) texts changing repeated → fault_of_past again last repeated ≡ answer
+    → IsJudgedPastOf answer again beside after texts changing
+judged_past answer again beside (Some zs) texts changing last known repeated are is =
+    record { known = last; is_known = known; repeated = repeated; are_repeated = are; answer_is = is }
+judged_past answer again beside None texts changing last known repeated are is = tt
 
 -- ---- over inputs that are known
 
@@ -148,10 +149,10 @@ module _ (set limits after : Option (List ℕ)) (first days : ℕ) (flights : Li
 
 -- ---- a run
 
--- what is booked already is told ahead of a call
+-- what the seal has against the run is told ahead of a call
 pub call_once : (again : Bool) (beside : Beside) (after : Option (List ℕ)) (texts : List (Option (List ℕ)))
     (changing : Option (List ℕ)) (fault : DeskFault)
-    → (again ≡ false → IsRepeatedOf false beside after texts changing)
+    → IsJudgedPastOf None again beside after texts changing
     → IfSome after (λ zs. IsCallOnce again beside zs texts changing fault)
 call_once again beside None texts changing fault once = tt
 call_once again beside (Some zs) texts changing (Book session call) once = once
@@ -200,17 +201,17 @@ module _ (set limits after : Option (List ℕ)) (first days today : ℕ) (texts 
     by None l a agreed refused once = tt
 
   -- behind all inputs
-  pub sealed_again : (flights : List Flown) (grid : Ladders) (past : List Entry) (scripts : List (List Request)) (changes : List Control)
-      (fault : DeskFault) → Agreeing
+  pub sealed_past : (flights : List Flown) (grid : Ladders) (past : List Entry) (scripts : List (List Request)) (changes : List Control)
+      (fault : DeskFault) (told : SealFault) → Agreeing
       → OfThree set limits after (λ xs ys zs. IsAsked xs ys first days today zs texts changing flights grid past scripts changes)
-      → IsRepeatedOf true beside after texts changing → again ≡ false → fault ≡ Seal Again → IsRefused fault
-  sealed_again flights grid past scripts changes fault agreed asked repeated once same =
-      by set limits after agreed asked repeated where
+      → IsJudgedPastOf (Some told) again beside after texts changing → fault ≡ Seal told → IsRefused fault
+  sealed_past flights grid past scripts changes fault told agreed asked judged same =
+      by set limits after agreed asked judged where
         by : (s l a : Option (List ℕ)) → OfThree s l a (λ xs ys zs. Agrees beside xs ys first days zs)
             → OfThree s l a (λ xs ys zs. IsAsked xs ys first days today zs texts changing flights grid past scripts changes)
-            → IsRepeatedOf true beside a texts changing
+            → IsJudgedPastOf (Some told) again beside a texts changing
             → OfThree s l a (λ xs ys zs. IsRefusedSealedRun beside again xs ys first days today zs texts changing fault)
-        by (Some xs) (Some ys) (Some zs) agreed asked repeated = inr (record {
+        by (Some xs) (Some ys) (Some zs) agreed asked judged = inr (record {
           ahead = agreed;
           here = inr (record {
             flights = flights;
@@ -219,14 +220,14 @@ module _ (set limits after : Option (List ℕ)) (first days today : ℕ) (texts 
             scripts = scripts;
             changes = changes;
             is_asked = asked;
-            not_again = once;
-            is_repeated = repeated;
+            of_past = told;
+            is_judged = judged;
             fault_is = same;
           });
         })
-        by (Some xs) (Some ys) None agreed asked repeated = tt
-        by (Some xs) None a agreed asked repeated = tt
-        by None l a agreed asked repeated = tt
+        by (Some xs) (Some ys) None agreed asked judged = tt
+        by (Some xs) None a agreed asked judged = tt
+        by None l a agreed asked judged = tt
 
   large_behind : Agreeing → OfThree set limits after (λ xs ys zs. IsTooLargeRun xs ys first days today zs texts changing)
       → IsLarge

@@ -1,9 +1,8 @@
 -- What a run is asked or refused where it is known what it starts from, what its texts ask of that, and what is wrong with one of them.
-use Rattle.std.proofs.Common.{◌≡◌, ◌<◌, ⊎_elim, inl, inr, ℕ, Bool, true, false, List, Option, IfSome, length, refl, subst, sym}
+use Rattle.std.proofs.Common.{◌≡◌, ◌<◌, ⊎_elim, inl, inr, ℕ, Bool, List, Option, None, Some, IfSome, length, refl, subst, sym}
 use Rattle.ssim_flights.specs.declared.flight.Flight.{Flight as Flown}
 use Rattle.seat_seal.specs.declared.beside.Basis.{Basis}
 use Rattle.seat_seal.specs.declared.beside.Beside.{Beside}
-use Rattle.seat_seal.specs.declared.comparing.SealFault.TheVariants.{Again}
 use Rattle.seat_desk.proofs.Grounds.{ground_of_loaded}
 use Rattle.seat_desk.specs.Answering.{IsFirstTooLarge, IsRefusedAnswer}
 use Rattle.seat_desk.specs.AuditDesk.{IsUnlawful}
@@ -17,8 +16,8 @@ use Rattle.seat_replies.specs.Requests.{IsTooLargeAmong}
 use Rattle.seat_scripts.proofs.Common.{DeskFault, IsFirstTooLargeLoad, Ladders, most_journal_bytes}
 use Rattle.seat_scripts.proofs.Inputs.{asked_of, has_loaded, if_loaded}
 use Rattle.seat_scripts.proofs.Judged.{not_device, not_large}
-use Rattle.seat_scripts.proofs.Seals.{based, carried_of, each_three, refused_start, repeated_of, sealed_again, sealed_changes_fail, sealed_large_changes, sealed_large_script, sealed_refused, sealed_script_fails, sealed_unchanged}
-use Rattle.seat_scripts.specs.AskedFrom.{AreNoChanges, AreNoTexts, HaveRequests, IsAskedFrom, IsBookedAlready, IsNoScript, IsNotAskedFrom, asked_by}
+use Rattle.seat_scripts.proofs.Seals.{based, carried_of, each_three, judged_past, refused_start, sealed_past, sealed_changes_fail, sealed_large_changes, sealed_large_script, sealed_refused, sealed_script_fails, sealed_unchanged}
+use Rattle.seat_scripts.specs.AskedFrom.{AreNoChanges, AreNoTexts, HaveRequests, IsAskedFrom, IsNoScript, IsNotAskedFrom, IsStoppedByPast, asked_by}
 use Rattle.seat_scripts.specs.Beside.{IsRefusedBeside, IsRefusedSealedRun, IsTooLargeSealedRun}
 use Rattle.seat_scripts.specs.ReadAsked.{IsNotAsked, IsReadAsked}
 use Rattle.seat_scripts.specs.Starting.{IsNoStart, IsStarted}
@@ -92,21 +91,21 @@ module _ {S L : Type 0} (set : Bytes S) (limits : Bytes L) (inputs : Inputs S L)
             (wrong.device same);
       }
 
-      booked_already : IsBookedAlready start again today texts changing fault → NotAsked
-      booked_already wrong = record {
-        refused = λ input. sealed_again (set inputs.set) (limits inputs.limits) after inputs.first inputs.days today texts changing beside again
-            start.flights start.past.grid start.past.journal wrong.read.scripts.scripts wrong.read.changes.changes.items fault is.agree
+      stopped_by_past : IsStoppedByPast start again today texts changing fault → NotAsked
+      stopped_by_past wrong = record {
+        refused = λ input. sealed_past (set inputs.set) (limits inputs.limits) after inputs.first inputs.days today texts changing beside again
+            start.flights start.past.grid start.past.journal wrong.read.scripts.scripts wrong.read.changes.changes.items fault wrong.of_past is.agree
             (asked_of (set inputs.set) (limits inputs.limits) after inputs.first inputs.days today texts changing start.flights start.past.grid is.is_loaded start.past.journal is.is_past wrong.read.scripts.scripts wrong.are_texts.are_scripts
             start.past.grid wrong.read.changes.changes.items refl wrong.are_texts.are_changes)
-            (repeated_of true beside after texts changing start.known is.is_known wrong.is_known) wrong.not_again wrong.fault_is;
-        large = λ same. absurd (not_large fault Again wrong.fault_is same);
-        device = λ same. absurd (not_device fault Again wrong.fault_is same);
+            (judged_past (Some wrong.of_past) again beside after texts changing start.known is.is_known wrong.is_judged.repeated wrong.is_judged.are_repeated wrong.is_judged.answer_is) wrong.fault_is;
+        large = λ same. absurd (not_large fault wrong.of_past wrong.fault_is same);
+        device = λ same. absurd (not_device fault wrong.of_past wrong.fault_is same);
       }
 
       pub not_asked : IsNotAskedFrom start again today texts changing script_failed changes_failed fault → NotAsked
       not_asked wrong = ⊎_elim
           (λ (t : AreNoTexts start today texts changing script_failed changes_failed fault). refused_texts t)
-          (λ (b : IsBookedAlready start again today texts changing fault). booked_already b)
+          (λ (b : IsStoppedByPast start again today texts changing fault). stopped_by_past b)
           wrong
 
   -- ---- where all are right
@@ -119,7 +118,7 @@ module _ {S L : Type 0} (set : Bytes S) (limits : Bytes L) (inputs : Inputs S L)
         is_asked = asked_of (set inputs.set) (limits inputs.limits) after inputs.first inputs.days today texts changing start.flights start.past.grid is.is_loaded start.past.journal is.is_past asks.read.scripts.scripts asks.are_texts.are_scripts
             start.past.grid asks.read.changes.changes.items refl asks.are_texts.are_changes;
         agree = is.agree;
-        is_once = λ given. repeated_of false beside after texts changing start.known is.is_known (asks.is_once given);
+        is_judged = judged_past None again beside after texts changing start.known is.is_known asks.is_judged.repeated asks.is_judged.are_repeated asks.is_judged.answer_is;
         is_basis = is.is_basis;
         is_grid = is.is_grid;
         is_legal = is.is_legal;

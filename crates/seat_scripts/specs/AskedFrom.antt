@@ -1,17 +1,17 @@
 -- What scripts and changes ask of a run that is started, and what is wrong with one of them.
-use Rattle.std.specs.Prelude.{◌≡◌, ◌<◌, ◌⊎◌, ℕ, Bool, false, true, List, length, Option, None, IfSome}
+use Rattle.std.specs.Prelude.{◌≡◌, ◌<◌, ◌⊎◌, ℕ, Bool, List, length, Option, None, Some, IfSome}
 use Rattle.std.specs.List.{AllByRecursion}
 use Rattle.airimp_lines.specs.declared.requests.Request.{Request}
 use Rattle.seat_seal.specs.Booked.{changes_booked, scripts_booked}
 use Rattle.seat_seal.specs.Known.{carried_by, runs_known}
-use Rattle.seat_seal.specs.declared.comparing.SealFault.TheVariants.{Again}
+use Rattle.seat_seal.specs.declared.comparing.SealFault.{SealFault}
 use Rattle.seat_desk.specs.Desk.{IsOfInput}
 use Rattle.seat_desk.specs.Loading.{IsBehind}
 use Rattle.seat_desk.specs.declared.fault.DeskFault.{DeskFault}
 use Rattle.seat_desk.specs.declared.fault.DeskFault.TheVariants.{Device, Seal, TooLarge}
 use Rattle.seat_replies.specs.Changes.{AreChanges, IsOfChanges, IsOnLeg, IsUnchanged, most_change_bytes}
 use Rattle.seat_replies.specs.Requests.{AreRight, AreScripts, IsOfScript, IsRefusedAmong, IsTooLargeAmong}
-use Rattle.seat_scripts.specs.Repeated.{AreRepeated, IsBookedOf, IsOneBooked}
+use Rattle.seat_scripts.specs.Repeated.{AreRepeated, IsBookedOf, IsOneBooked, fault_of_past}
 use Rattle.seat_scripts.specs.TextImprints.{AreImprints, IsImprintOf}
 use Rattle.seat_scripts.specs.declared.asked.Asked.{Asked}
 use Rattle.seat_scripts.specs.declared.asked.Texts.{Texts}
@@ -54,9 +54,12 @@ pub record AreNoTexts (start : Start) (today : ℕ) (texts : List (Option (List 
       ⊎ IsBehind (HaveRequests today texts) (IfSome changing (λ bytes. most_change_bytes < length bytes))
   pub device : fault ≡ Device → script_failed ⊎ IsBehind (HaveRequests today texts) changes_failed
 
--- whether a run that the seal knows booked what one of these texts begins with
-abbrev pub AreKnown : Start → List (Option (List ℕ)) → Option (List ℕ) → Bool → Type 0
-AreKnown start texts changing answer = AreRepeated None (runs_known start.known) texts changing answer
+-- this is what the seal beside the older journal has against a run with these texts
+pub record IsJudgedFrom (start : Start) (answer : Option SealFault) (again : Bool) (texts : List (Option (List ℕ)))
+    (changing : Option (List ℕ)) : Type 0 where
+  pub repeated : Bool
+  pub are_repeated : AreRepeated None (runs_known start.known) texts changing repeated
+  pub answer_is : fault_of_past again start.known repeated ≡ answer
 
 -- what they ask of the run that is started
 abbrev pub asked_by : Start → Texts → Asked
@@ -72,26 +75,26 @@ asked_by start read = record {
   earlier = carried_by start.known;
 }
 
--- this is asked, and none of it is booked already, unless it is to be booked again
+-- this is asked, and the seal has nothing against it
 pub record IsAskedFrom (start : Start) (again : Bool) (today : ℕ) (texts : List (Option (List ℕ)))
     (changing : Option (List ℕ)) (asked : Asked) : Type 0 where
   pub read : Texts
   pub are_texts : AreTexts start today texts changing read
-  pub is_once : again ≡ false → AreKnown start texts changing false
+  pub is_judged : IsJudgedFrom start None again texts changing
   pub asked_is : asked ≡ asked_by start read
 
--- all is right, but booked already, and not to be booked again
-pub record IsBookedAlready (start : Start) (again : Bool) (today : ℕ) (texts : List (Option (List ℕ)))
+-- all is right, but this is what the seal has against it
+pub record IsStoppedByPast (start : Start) (again : Bool) (today : ℕ) (texts : List (Option (List ℕ)))
     (changing : Option (List ℕ)) (fault : DeskFault) : Type 0 where
   pub read : Texts
   pub are_texts : AreTexts start today texts changing read
-  pub not_again : again ≡ false
-  pub is_known : AreKnown start texts changing true
-  pub fault_is : fault ≡ Seal Again
+  pub of_past : SealFault
+  pub is_judged : IsJudgedFrom start (Some of_past) again texts changing
+  pub fault_is : fault ≡ Seal of_past
 
 -- one of the two stops the run
 abbrev pub IsNotAskedFrom : Start → Bool → ℕ → List (Option (List ℕ)) → Option (List ℕ) → Type 0 → Type 0 → DeskFault
     → Type 0
 IsNotAskedFrom start again today texts changing script_failed changes_failed fault =
     AreNoTexts start today texts changing script_failed changes_failed fault
-    ⊎ IsBookedAlready start again today texts changing fault
+    ⊎ IsStoppedByPast start again today texts changing fault

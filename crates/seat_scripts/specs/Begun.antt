@@ -1,4 +1,4 @@
--- Where the runs of a journal began that its seal knows, and what they have against a run that goes on with scripts.
+-- Where the runs of a journal began that its seal knows, and what that seal has against a run that goes on with scripts.
 use Rattle.std.specs.Prelude.{◌≡◌, ◌+◌, ◌&&◌, ℕ, Bool, not, nat_eq, if◌then◌else◌, is_none, List, [], ◌∷◌, length, Option, None, Some}
 use Rattle.std.specs.List.{list_all, list_any}
 use Rattle.airimp_lines.specs.declared.requests.Request.{Request}
@@ -7,10 +7,11 @@ use Rattle.seat_nesting.specs.Nesting.{Ladders}
 use Rattle.seat_journal.specs.declared.entry.Control.{Control}
 use Rattle.seat_journal.specs.Text.{IsJournalText}
 use Rattle.seat_journal.specs.declared.entry.Entry.{Entry}
-use Rattle.seat_seal.specs.Known.{IsKnown, runs_known}
+use Rattle.seat_seal.specs.Eras.{is_carried}
+use Rattle.seat_seal.specs.Known.{IsKnown, era_known, runs_known}
 use Rattle.seat_seal.specs.declared.beside.Beside.{Beside}
 use Rattle.seat_seal.specs.declared.comparing.SealFault.{SealFault}
-use Rattle.seat_seal.specs.declared.comparing.SealFault.TheVariants.{Again, Behind, Several}
+use Rattle.seat_seal.specs.declared.comparing.SealFault.TheVariants.{Again, Behind, Carried, Several}
 use Rattle.seat_seal.specs.declared.run.Run.{Run}
 use Rattle.seat_seal.specs.declared.seal.Sealed.{Sealed as Belonging}
 use Rattle.seat_desk.specs.Loading.{Bytes}
@@ -42,8 +43,13 @@ abbrev pub fault_of_runs : Bool → Option ℕ → ℕ → List Run → Bool →
 fault_of_runs again given lines [] repeated = None
 fault_of_runs again given lines (r ∷ more) repeated = fault_among again given lines (r ∷ more) repeated
 
--- what the runs that the seal beside a journal knows have against these scripts and changes, behind the lines of an older one and those
--- that are taken
+-- its bookings were carried to another journal; or this is what the runs that it knows have against it
+abbrev pub fault_of_known : Bool → Option ℕ → ℕ → Option Belonging → Bool → Option SealFault
+fault_of_known again given lines known repeated =
+    if is_carried (era_known known) then Some Carried
+    else fault_of_runs again given lines (runs_known known) repeated
+
+-- what the seal beside a journal has against these scripts and changes, behind the lines of an older one and those that are taken
 pub record IsJudged (answer : Option SealFault) (again : Bool) (given : Option ℕ) (beside : Beside) (after journal : List ℕ)
     (texts : List (Option (List ℕ))) (changing : Option (List ℕ)) : Type 0 where
   pub known : Option Belonging
@@ -52,7 +58,7 @@ pub record IsJudged (answer : Option SealFault) (again : Bool) (given : Option �
   pub is_older : IsJournalText after older
   pub repeated : Bool
   pub are_repeated : AreRepeated (Some (length older + lines_taken given known)) (runs_known known) texts changing repeated
-  pub answer_is : fault_of_runs again given (length older + lines_taken given known) (runs_known known) repeated ≡ answer
+  pub answer_is : fault_of_known again given (length older + lines_taken given known) known repeated ≡ answer
 
 -- where the bytes of the set, of the limits and of both journals are known
 abbrev pub IsJudgedOf : {S L : Type 0} → Option SealFault → Bool → Beside → Bytes S → Bytes L → Inputs S L → Option (List ℕ)
@@ -61,14 +67,14 @@ IsJudgedOf answer again beside set limits inputs after given journal texts chang
     OfFour (set inputs.set) (limits inputs.limits) after journal
     (λ xs ys older zs. IsJudged answer again given beside older zs texts changing)
 
--- a fault that is looked for behind what the runs have against it: a line that is not asked, lines that the journal lacks, a call
+-- a fault that is looked for behind what the seal has against it: a line that is not asked, lines that the journal lacks, a call
 abbrev pub IsBehindRuns : DeskFault → Type 0
 IsBehindRuns (Unasked session call) = Unit {0}
 IsBehindRuns NoBehind = Unit {0}
 IsBehindRuns (Book session call) = Unit {0}
 IsBehindRuns _ = ⊥
 
--- both journals agree with what stands beside them and all inputs are right, but this is what the runs have against them
+-- both journals agree with what stands beside them and all inputs are right, but this is what the seal has against them
 pub record IsRefusedByRuns (besides : Besides) (again : Bool) (set limits : List ℕ) (first days today : ℕ) (after : List ℕ)
     (given : Option ℕ) (journal : List ℕ) (texts : List (Option (List ℕ))) (changing : Option (List ℕ))
     (fault : DeskFault) : Type 0 where

@@ -1,5 +1,5 @@
 -- What stands beside the journal that a run goes on from: it is compared ahead of that journal's own faults.
-use Rattle.std.specs.Prelude.{◌≡◌, ◌≤◌, ◌⊎◌, ℕ, Bool, true, false, List, length, Option, None, IfSome}
+use Rattle.std.specs.Prelude.{◌≡◌, ◌≤◌, ◌⊎◌, ℕ, Bool, List, length, Option, None, Some, IfSome}
 use Rattle.airimp_lines.specs.declared.requests.Request.{Request}
 use Rattle.ssim_flights.specs.declared.flight.Flight.{Flight as Flown}
 use Rattle.seat_nesting.specs.Nesting.{Ladders}
@@ -8,7 +8,7 @@ use Rattle.seat_journal.specs.declared.entry.Entry.{Entry}
 use Rattle.seat_seal.specs.Besides.{IsFaultBeside}
 use Rattle.seat_seal.specs.declared.beside.Basis.{Basis}
 use Rattle.seat_seal.specs.declared.beside.Beside.{Beside}
-use Rattle.seat_seal.specs.declared.comparing.SealFault.TheVariants.{Again}
+use Rattle.seat_seal.specs.declared.comparing.SealFault.{SealFault}
 use Rattle.seat_desk.specs.Answering.{IsFirstTooLarge, IsRefusedAnswer}
 use Rattle.seat_desk.specs.AuditDesk.{IsUnlawful, most_journal_bytes}
 use Rattle.seat_desk.specs.Loading.{Bytes, IsBehind}
@@ -17,7 +17,7 @@ use Rattle.seat_desk.specs.declared.fault.DeskFault.{DeskFault}
 use Rattle.seat_desk.specs.declared.fault.DeskFault.TheVariants.{Book, Seal}
 use Rattle.seat_desk.specs.declared.inputs.Inputs.{Inputs}
 use Rattle.seat_replies.specs.Asked.{FailsRun, HasLoaded, IsAsked, IsTooLargeRun, OfThree}
-use Rattle.seat_scripts.specs.Repeated.{IsRepeated}
+use Rattle.seat_scripts.specs.Repeated.{IsJudgedPast}
 use Rattle.seat_replies.specs.RunDesk.{IsRefusedRun}
 
 -- ---- one journal, on a basis that is known
@@ -43,8 +43,9 @@ abbrev pub AgreesOf : {S L : Type 0} → Beside → Bytes S → Bytes L → Inpu
 AgreesOf beside set limits inputs journal =
     OfThree (set inputs.set) (limits inputs.limits) journal (λ xs ys zs. Agrees beside xs ys inputs.first inputs.days zs)
 
--- all inputs are right, but a run that the seal knows names a script or the changes, which are not to be booked again
-pub record IsRefusedAgain (again : Bool) (beside : Beside) (set limits : List ℕ) (first days today : ℕ) (after : List ℕ)
+-- all inputs are right, but this is what the seal has against the run: the bookings were carried to another journal; or a run that it knows names a
+-- script or the changes, which are not to be booked again
+pub record IsRefusedByPast (again : Bool) (beside : Beside) (set limits : List ℕ) (first days today : ℕ) (after : List ℕ)
     (texts : List (Option (List ℕ))) (changing : Option (List ℕ)) (fault : DeskFault) : Type 0 where
   pub flights : List Flown
   pub grid : Ladders
@@ -52,15 +53,14 @@ pub record IsRefusedAgain (again : Bool) (beside : Beside) (set limits : List �
   pub scripts : List (List Request)
   pub changes : List Control
   pub is_asked : IsAsked set limits first days today after texts changing flights grid past scripts changes
-  pub not_again : again ≡ false
-  pub is_repeated : IsRepeated true beside after texts changing
-  pub fault_is : fault ≡ Seal Again
+  pub of_past : SealFault
+  pub is_judged : IsJudgedPast (Some of_past) again beside after texts changing
+  pub fault_is : fault ≡ Seal of_past
 
--- a call is refused only where the seal names no script and no changes, or these are to be booked again: what is booked
--- already is told first, also where the journal has no room for it
+-- a call is refused only where the seal has nothing against the run: what is booked already is told first, also where the journal has no room
+-- for it
 abbrev pub IsCallOnce : Bool → Beside → List ℕ → List (Option (List ℕ)) → Option (List ℕ) → DeskFault → Type 0
-IsCallOnce again beside after texts changing (Book session call) =
-    again ≡ false → IsRepeated false beside after texts changing
+IsCallOnce again beside after texts changing (Book session call) = IsJudgedPast None again beside after texts changing
 IsCallOnce again beside after texts changing _ = Unit {0}
 
 -- the fault is one of the run
@@ -70,14 +70,14 @@ pub record IsRefusedOnce (again : Bool) (beside : Beside) (set limits : List ℕ
   pub once : IsCallOnce again beside after texts changing fault
 
 -- the fault is that of the set, of its flights, of the limits, of what stands beside the older journal, or of that journal; or what
--- stands there agrees, and the fault is one of the run, or that it is booked already
+-- stands there agrees, and the fault is one of the run, or what the seal has against it
 abbrev pub IsRefusedSealedRun : Beside → Bool → List ℕ → List ℕ → ℕ → ℕ → ℕ → List ℕ → List (Option (List ℕ))
     → Option (List ℕ) → DeskFault → Type 0
 IsRefusedSealedRun beside again set limits first days today after texts changing fault =
     IsRefusedAnswer IsUnlawful beside set limits first days after fault
     ⊎ IsBehind (Agrees beside set limits first days after)
     (IsRefusedOnce again beside set limits first days today after texts changing fault
-    ⊎ IsRefusedAgain again beside set limits first days today after texts changing fault)
+    ⊎ IsRefusedByPast again beside set limits first days today after texts changing fault)
 
 abbrev pub IsRefusedSealedRunOf : {S L : Type 0} → Beside → Bool → Bytes S → Bytes L → Inputs S L → ℕ → Option (List ℕ)
     → List (Option (List ℕ)) → Option (List ℕ) → DeskFault → Type 0

@@ -7,7 +7,7 @@ use Rattle.seat_seal.specs.declared.comparing.SealFault.{SealFault}
 use Rattle.seat_desk.specs.declared.fault.DeskFault.{DeskFault}
 use Rattle.seat_desk.specs.declared.fault.DeskFault.TheVariants.{Seal}
 use Rattle.seat_replies.specs.Changes.{AreChanges, IsOfChanges, IsOnLeg, IsUnchanged}
-use Rattle.seat_scripts.specs.Begun.{fault_of_runs}
+use Rattle.seat_scripts.specs.Begun.{fault_of_known}
 use Rattle.seat_scripts.specs.Repeated.{IsBookedOf}
 use Rattle.seat_scripts.specs.Resuming.{IsNoRest, IsRestOf}
 use Rattle.seat_scripts.specs.TextImprints.{IsImprintOf}
@@ -19,14 +19,14 @@ use Rattle.seat_scripts.specs.declared.changes.ReadChanges.{ReadChanges}
 abbrev pub lines_ahead : Against → ℕ
 lines_ahead read = length read.older.journal + read.more
 
--- this is what the runs that the journal's seal knows have against the scripts and the changes
+-- this is what the journal's seal has against the scripts and the changes
 pub record IsJudgedBeside (read : Against) (given : Option ℕ) (again : Bool) (changing : Option (List ℕ))
     (answer : Option SealFault) : Type 0 where
   pub booked : Bool
   pub are_booked : IsBookedOf (changes_booked (Some (lines_ahead read)) (runs_known read.known)) changing booked
-  pub answer_is : fault_of_runs again given (lines_ahead read) (runs_known read.known) (read.is_booked || booked) ≡ answer
+  pub answer_is : fault_of_known again given (lines_ahead read) read.known (read.is_booked || booked) ≡ answer
 
--- the rows ask for these changes on the flights, and the runs have nothing against them and the scripts
+-- the rows ask for these changes on the flights, and the seal has nothing against them and the scripts
 pub record AreBeside (read : Against) (given : Option ℕ) (again : Bool) (changing : Option (List ℕ))
     (made : ReadChanges) : Type 0 where
   pub are_changes : IfSome changing (AreChanges read.flights made.changes.items)
@@ -49,7 +49,7 @@ pub record IsGoneOn (read : Against) (given : Option ℕ) (again : Bool) (changi
   pub behind_is : asked.behind ≡ lines_ahead read
   pub earlier_is : asked.earlier ≡ carried_by read.known
 
--- the runs have this against the scripts and the changes, all of which are right
+-- the seal has this against the scripts and the changes, all of which are right
 pub record IsStoppedByRuns (read : Against) (given : Option ℕ) (again : Bool) (changing : Option (List ℕ))
     (fault : DeskFault) : Type 0 where
   pub made : ReadChanges
@@ -63,7 +63,7 @@ pub record IsStoppedByChanges (read : Against) (changing : Option (List ℕ)) (f
   pub of_changes : IsOfChanges fault
   pub unchanged : IfSome changing (IsUnchanged read.flights fault)
 
--- the runs have nothing against them, but the journal has no such beginning of them
+-- the seal has nothing against them, but the journal has no such beginning of them
 pub record IsStoppedByLines (read : Against) (given : Option ℕ) (again : Bool) (changing : Option (List ℕ))
     (fault : DeskFault) : Type 0 where
   pub made : ReadChanges

@@ -15,6 +15,7 @@ pub mod Repeated
 pub mod Replying
 pub mod Resumed
 pub mod Resuming
+pub mod RowDays
 pub mod SealedRun
 pub mod Starting
 pub mod Taken

@@ -1,5 +1,5 @@
 -- What is known of what a run is asked, with what stands beside the journal that it goes on from.
-use Rattle.std.specs.Prelude.{◌≡◌, ℕ, Bool, false, List, length, Option, IfSome}
+use Rattle.std.specs.Prelude.{◌≡◌, ℕ, Bool, List, length, Option, None, IfSome}
 use Rattle.std.specs.List.{AllByRecursion}
 use Rattle.seat_rules.specs.Journal.{IsLegal}
 use Rattle.seat_seal.specs.Known.{IsCarried}
@@ -15,11 +15,11 @@ use Rattle.seat_replies.specs.Asked.{IsAskedOf}
 use Rattle.seat_replies.specs.Changes.{IsOnLeg}
 use Rattle.seat_replies.specs.Requests.{AreRight}
 use Rattle.seat_scripts.specs.Beside.{AgreesOf, FailsSealedRun, IsRefusedSealedRunOf, IsTooLargeSealedRunOf}
-use Rattle.seat_scripts.specs.Repeated.{IsRepeatedOf}
+use Rattle.seat_scripts.specs.Repeated.{IsJudgedPastOf}
 use Rattle.seat_scripts.specs.TextImprints.{AreImprints, IsImprintOf}
 use Rattle.seat_scripts.specs.declared.asked.Asked.{Asked}
 
--- all is right and agrees, what is not to be booked again is booked by no run that the seal knows, and the basis, the imprints and what
+-- all is right and agrees, the seal has nothing against the run, and the basis, the imprints and what
 -- the next seal takes are those of the inputs
 pub record IsReadAsked {S L : Type 0} (beside : Beside) (again : Bool) (set : Bytes S) (limits : Bytes L)
     (inputs : Inputs S L) (today : ℕ) (after : Option (List ℕ)) (texts : List (Option (List ℕ)))
@@ -27,7 +27,7 @@ pub record IsReadAsked {S L : Type 0} (beside : Beside) (again : Bool) (set : By
   pub is_asked : IsAskedOf set limits inputs today after texts changing asked.flights asked.past.grid asked.past.journal
       asked.scripts asked.changes.items
   pub agree : AgreesOf beside set limits inputs after
-  pub is_once : again ≡ false → IsRepeatedOf false beside after texts changing
+  pub is_judged : IsJudgedPastOf None again beside after texts changing
   pub is_basis : IsBasisOf set limits inputs asked.basis
   pub is_grid : IsGridOf asked.flights asked.past.grid
   pub is_legal : IsLegal asked.past.grid asked.past.journal
@@ -39,7 +39,7 @@ pub record IsReadAsked {S L : Type 0} (beside : Beside) (again : Bool) (set : By
   pub is_carried : IfSome after (λ bytes. IsCarried beside bytes asked.earlier)
   pub behind_is : asked.behind ≡ length asked.past.journal
 
--- an input is refused, is too large or has failed, each behind those that are right, or all are, and what is not to be booked again is booked
+-- an input is refused, is too large or has failed, each behind those that are right, or all are, and the seal has something against the run
 pub record IsNotAsked {S L : Type 0} (beside : Beside) (again : Bool) (set : Bytes S) (limits : Bytes L)
     (inputs : Inputs S L) (today : ℕ) (after : Option (List ℕ)) (texts : List (Option (List ℕ)))
     (changing : Option (List ℕ)) (load_failed past_failed script_failed changes_failed : Type 0) (fault : DeskFault) : Type 0

@@ -1,5 +1,5 @@
 //! What a run is asked: its inputs, each read and checked before the next is read.
-ghost use Rattle.std.specs.Prelude.{◌≡◌, ◌≤◌, IfErr, IfOk, IfSome, OnOk, false, length, map};
+ghost use Rattle.std.specs.Prelude.{◌≡◌, ◌≤◌, IfErr, IfOk, IfSome, None, OnOk, length, map};
 ghost use Rattle.std.specs.List.{AllByRecursion};
 ghost use Rattle.airline_base.specs.Days.{IsCenturyDay};
 ghost use Rattle.ssim_flights.specs.Right.{IsOfCentury};
@@ -14,13 +14,13 @@ ghost use Rattle.seat_scripts.specs.AskedFrom.{AreNoTexts, AreTexts, IsAskedFrom
 ghost use Rattle.seat_scripts.specs.Beside.{AgreesOf, FailsSealedRun, IsRefusedSealedRunOf, IsTooLargeSealedRunOf};
 ghost use Rattle.seat_replies.specs.Changes.{IsOnLeg};
 ghost use Rattle.seat_scripts.specs.ReadAsked.{IsNotAsked, IsReadAsked};
-ghost use Rattle.seat_scripts.specs.Repeated.{IsRepeatedOf};
+ghost use Rattle.seat_scripts.specs.Repeated.{IsJudgedPastOf};
 ghost use Rattle.seat_replies.specs.Requests.{AreRight, HasFailedAmong};
 ghost use Rattle.seat_scripts.specs.TextImprints.{AreImprints, IsImprintOf};
 
 use crate::changes::{ReadChanges, limit_changes};
 use crate::imprints::TextImprints;
-use crate::repeated::{either, once};
+use crate::repeated::{either, of_past};
 use crate::scripts::{ReadScripts, Scripts, read_scripts};
 use crate::starting::{Start, started};
 use airline_base::{Day, NotedRead};
@@ -49,7 +49,8 @@ pub struct Asked {
 }
 
 /// Reads a data set, limit rows, an older journal, which is replayed on all processors, one to eight scripts and changes of limits. What stands beside the older journal
-/// is compared with the set, the limits and that journal ahead of its own faults. Behind all inputs, scripts or changes are refused of
+/// is compared with the set, the limits and that journal ahead of its own faults. Behind all inputs the run is refused where its seal says that the bookings
+/// were carried to another journal (`SealFault::Carried`), and behind that scripts or changes are of
 /// which one begins with what a run booked that its seal knows, unless they are to be booked `again`.
 pub fn read_asked<
     R: Threads + Sync,
@@ -76,8 +77,8 @@ pub fn read_asked<
     ensures ok { IfOk result (λ a.
         IsAskedOf S.remaining L.remaining inputs.old today (A.remaining after.old) (map C.remaining scripts.old) (D.remaining changes.old) a.flights a.past.grid a.past.journal a.scripts a.changes.items) }
     ensures sealed { OnOk result (AgreesOf beside.now S.remaining L.remaining inputs.old (A.remaining after.old)) }
-    ensures once { OnOk result (again ≡ false
-        → IsRepeatedOf false beside.now (A.remaining after.old) (map C.remaining scripts.old) (D.remaining changes.old)) }
+    ensures once { OnOk result
+        (IsJudgedPastOf None again beside.now (A.remaining after.old) (map C.remaining scripts.old) (D.remaining changes.old)) }
     ensures basis { IfOk result (λ a. IsBasisOf S.remaining L.remaining inputs.old a.basis) }
     ensures grid { IfOk result (λ a. IsGridOf a.flights a.past.grid) }
     ensures legal { IfOk result (λ a. IsLegal a.past.grid a.past.journal) }
@@ -145,7 +146,7 @@ fn asked_once<
     }
 }
 
-/// What scripts and changes ask of a run that is started, where no run that the seal knows booked it, or it is to be booked `again`.
+/// What scripts and changes ask of a run that is started, where the seal has nothing against it.
 fn asked_from<C: NotedRead, D: NotedRead>(
     alloc: Global,
     start: Start,
@@ -166,7 +167,7 @@ fn asked_from<C: NotedRead, D: NotedRead>(
         Err(fault) => return Err(fault),
     };
     let is_repeated = either(read.scripts.is_booked, read.changes.are_booked);
-    match once(again, is_repeated) {
+    match of_past(again, &start.known, is_repeated) {
         Ok(()) => Ok(asked_by(start, read)),
         Err(fault) => Err(fault),
     }

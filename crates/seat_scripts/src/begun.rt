@@ -1,19 +1,18 @@
-//! Where the runs of a journal began that its seal knows, and what they have against a run that goes on with scripts.
+//! Where the runs of a journal began that its seal knows, and what that seal has against a run that goes on with scripts.
 //! It knows numbers of lines, and no text.
 ghost use Rattle.std.specs.Prelude.{◌≡◌, ◌+◌, ◌≤◌, IfErr, OnOk, None, Some, length};
 ghost use Rattle.std.specs.List.{list_all, list_any};
 ghost use Rattle.seat_desk.specs.AuditDesk.{most_lines};
-ghost use Rattle.seat_seal.specs.Known.{runs_known};
 ghost use Rattle.seat_seal.specs.declared.comparing.SealFault.{SealFault as Fault};
-ghost use Rattle.seat_scripts.specs.Begun.{began_at, fault_among, fault_of_runs};
+ghost use Rattle.seat_scripts.specs.Begun.{began_at, fault_among, fault_of_known, fault_of_runs};
 
 use seat_core::Core;
 use seat_desk::DeskFault;
-use seat_seal::{Run, SealFault, Sealed, runs_in};
+use seat_seal::{Run, SealFault, Sealed, era_known, runs_in};
 
-/// Refuses scripts and changes that go on behind the lines of an older journal and so many more, where the runs that the journal's seal
-/// knows have something against it.
-pub(crate) fn of_runs(
+/// Refuses scripts and changes that go on behind the lines of an older journal and so many more, where the journal's seal has something against it:
+/// the bookings were carried to another journal, or what the runs that it knows say.
+pub(crate) fn of_known(
     again: bool,
     given: Option<u32>,
     older: &Core,
@@ -23,12 +22,12 @@ pub(crate) fn of_runs(
 ) -> Result<(), DeskFault>
     requires { length older.now.journal ≤ most_lines }
     ensures ok { OnOk result
-        (fault_of_runs again given (length older.now.journal + more) (runs_known known.now) is_repeated ≡ None) }
+        (fault_of_known again given (length older.now.journal + more) known.now is_repeated ≡ None) }
     ensures fault { IfErr result (λ f. (s : Fault) × (f ≡ DeskFault.Seal s) ×
-        (fault_of_runs again given (length older.now.journal + more) (runs_known known.now) is_repeated ≡ Some s)) }
+        (fault_of_known again given (length older.now.journal + more) known.now is_repeated ≡ Some s)) }
 {
     let lines = lines_ahead(older, more);
-    match fault_of_runs(again, given, lines, runs_in(known), is_repeated) {
+    match fault_of_known(again, given, lines, known, is_repeated) {
         Some(fault) => Err(DeskFault::Seal(fault)),
         None => Ok(()),
     }
@@ -40,6 +39,21 @@ pub(crate) fn lines_ahead(older: &Core, more: u32) -> u64
     ensures { result ≡ length older.now.journal + more }
 {
     older.journal().len() as u64 + more as u64
+}
+
+fn fault_of_known(
+    again: bool,
+    given: Option<u32>,
+    lines: u64,
+    known: &Option<Sealed>,
+    is_repeated: bool,
+) -> Option<SealFault>
+    ensures { result ≡ fault_of_known again given lines known.now is_repeated }
+{
+    if era_known(known).is_carried() {
+        return Some(SealFault::Carried);
+    }
+    fault_of_runs(again, given, lines, runs_in(known), is_repeated)
 }
 
 fn fault_of_runs(

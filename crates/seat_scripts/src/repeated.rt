@@ -1,26 +1,42 @@
-//! Scripts and changes that are booked already, by the runs that a seal knows.
+//! Scripts and changes that are booked already, by the runs that a seal knows, and what that seal has against a run that goes on from its journal.
 //! It knows what the runs booked, and no text.
-ghost use Rattle.std.specs.Prelude.{◌≡◌, ◌||◌, IfErr, IfOk, OnErr, OnOk, false, true};
+ghost use Rattle.std.specs.Prelude.{◌≡◌, ◌||◌, IfErr, IfOk, None, OnOk, Some};
 ghost use Rattle.std.specs.List.Sorted.{IsPermutation};
 ghost use Rattle.seat_seal.specs.Booked as booked;
 ghost use Rattle.seat_seal.specs.Known.{runs_known};
-ghost use Rattle.seat_seal.specs.declared.comparing.SealFault.TheVariants.{Again};
+ghost use Rattle.seat_seal.specs.declared.comparing.SealFault.{SealFault as Fault};
+ghost use Rattle.seat_scripts.specs.Repeated.{fault_of_past};
 
 use seat_desk::DeskFault;
-use seat_seal::{Booked, SealFault, Sealed, changes_booked, runs_in, scripts_booked};
+use seat_seal::{Booked, SealFault, Sealed, changes_booked, era_known, runs_in, scripts_booked};
 use std::alloc::Global;
 
-/// Refuses what a run booked that is known, where it is not to be booked again.
-pub(crate) fn once(again: bool, is_repeated: bool) -> Result<(), DeskFault>
-    ensures ok { OnOk result (again ≡ false → is_repeated ≡ false) }
-    ensures fault { IfErr result (λ f. f ≡ DeskFault.Seal Again) }
-    ensures given { OnErr result (again ≡ false) }
-    ensures repeated { OnErr result (is_repeated ≡ true) }
+/// Refuses a run that goes on from a journal whose bookings were carried to another, and one with what a run booked that is known, where it is not to be
+/// booked again.
+pub(crate) fn of_past(
+    again: bool,
+    known: &Option<Sealed>,
+    is_repeated: bool,
+) -> Result<(), DeskFault>
+    ensures ok { OnOk result (fault_of_past again known.now is_repeated ≡ None) }
+    ensures fault { IfErr result (λ f. (s : Fault) × (f ≡ DeskFault.Seal s) × (fault_of_past again known.now is_repeated ≡ Some s)) }
 {
-    if is_repeated && !again {
-        return Err(DeskFault::Seal(SealFault::Again));
+    match fault_of_past(again, known, is_repeated) {
+        Some(fault) => Err(DeskFault::Seal(fault)),
+        None => Ok(()),
     }
-    Ok(())
+}
+
+fn fault_of_past(again: bool, known: &Option<Sealed>, is_repeated: bool) -> Option<SealFault>
+    ensures { result ≡ fault_of_past again known.now is_repeated }
+{
+    if era_known(known).is_carried() {
+        return Some(SealFault::Carried);
+    }
+    if !again && is_repeated {
+        return Some(SealFault::Again);
+    }
+    None
 }
 
 /// Whether scripts are booked already, or changes are.

@@ -7,7 +7,7 @@ pub returns-in-Ok-clause-sealed : goal.returns-in-Ok-clause-sealed
 returns-in-Ok-clause-sealed g c = c.in-Ok.ensures.ok.agree
 
 pub returns-in-Ok-clause-once : goal.returns-in-Ok-clause-once
-returns-in-Ok-clause-once g c = c.in-Ok.ensures.ok.is_once
+returns-in-Ok-clause-once g c = c.in-Ok.ensures.ok.is_judged
 
 pub returns-in-Ok-clause-basis : goal.returns-in-Ok-clause-basis
 returns-in-Ok-clause-basis g c = c.in-Ok.ensures.ok.is_basis
