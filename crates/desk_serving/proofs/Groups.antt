@@ -1,17 +1,20 @@
 -- The lines of a group, and what each desk is told of them.
-use Rattle.std.proofs.Common.{◌≡◌, ◌<◌, ◌≤◌, ℕ, suc, ◌+◌, ◌&&◌, Bool, true, false, List, [], ◌∷◌, ◌++◌, length, map, take, get_or, inl, inr, refl, sym, ap, ◌∙◌, subst, arith, length-append}
+use Rattle.std.proofs.Common.{◌≡◌, ◌<◌, ◌≤◌, ℕ, suc, ◌+◌, ◌-◌, ◌&&◌, Bool, true, false, List, [], ◌∷◌, ◌++◌, length, map, take, get_or, refl, sym, ap, ◌∙◌, subst, arith, length-append}
 use Rattle.std.proofs.Math.Bool.{and-true, and_assoc}
 use Rattle.std.proofs.lemmas.List.{map-append, take_all, take_more}
-use Rattle.std.specs.Prelude.{All, Option, Some, None, is_some, replicate, Result, Ok, Err, IfOk}
+use Rattle.std.specs.Prelude.{All, Option, Some, None, is_some, replicate, slice_get, Result, Ok, Err, IfOk}
+use Rattle.desk_answers.specs.FaultLines.{memory_line}
 use Rattle.desk_hall.specs.Halls.{Hallful, IsOpened, IsPassed, IsPiece, IsSameHall, IsToldTo, IsUnheard, IsUnordered}
 use Rattle.desk_hall.specs.Pieces.{again_asked, backlog_of}
 use Rattle.desk_pipes.specs.Waiting.{Posted}
 use Rattle.desk_lines.specs.declared.desk.Desk.{Desk}
 use Rattle.desk_pipes.specs.declared.inbox.Said.{Said}
-use Rattle.desk_serving.specs.Going.{is_apart, IsHeardBehind}
-use Rattle.desk_serving.specs.Groups.{AreFrom, AreGroups, AreNotices, AreSteps, AreTaken, AreTold, GoesThrough, IsAnswered, IsBooked, IsCaughtUp, IsCaughtUpBy, IsForgotten, IsGiven, IsGroup, IsHallOver, IsOne, IsOneBy, IsOwn, IsServed, IsServedTo, IsStep, IsStepped, IsTaken, IsTakenApart, IsTakenUp, IsTold, IsToldLast, IsToldOn, IsWordAnswered, has_day}
+use Rattle.desk_serving.specs.Going.{is_apart}
+use Rattle.desk_serving.specs.Groups.{AreFrom, AreGroups, AreNotices, AreSteps, AreTaken, AreTold, GoesThrough, IsAnswered, IsBooked, IsCaughtUp, IsCaughtUpBy, IsForgotten, IsGiven, IsGroup, IsHallOver, IsOne, IsOneBy, IsOwn, IsServed, IsServedTo, IsStep, IsStepped, IsTaken, IsTakenApart, IsTakenUp, IsTold, IsToldOn, IsWanting, IsWordAnswered, IsWordClosed, SaysWanting, goes_on}
 use Rattle.desk_serving.specs.Silence.{IsSilentAt}
 use Rattle.desk_serving.specs.declared.step.Step.{Step}
+use Rattle.desk_serving.specs.declared.taking.Taking.{Taking}
+use Rattle.desk_serving.specs.declared.taking.Taking.TheVariants.{Nobodys}
 use Rattle.seat_journal.specs.declared.entry.Entry.{Entry}
 use Rattle.seat_serving.specs.Answering.{behind}
 use Rattle.seat_serving.specs.Served.{Served}
@@ -94,19 +97,23 @@ module _ {D : Type 0} where
 
   -- ---- a line
 
-  pub nobodys : (old : Hallful D) (one : Said) → length old.desks < one.session → IsTakenUp old old one true
-  nobodys old one beyond = record { taken = inl (record { nobodys = beyond; same = refl; goes_on = refl }) }
+  pub nobodys : (old : Hallful D) (one : Said) → length old.desks < one.session → IsTakenUp old old one Nobodys
+  nobodys old one beyond = record { nobodys = beyond; same = refl }
 
-  pub is_heard : (old new : Hallful D) (one : Said) (goes : Bool)
-      → IsHeardBehind one.is_earlier old new one.session one.passed one.line.items goes → IsTakenUp old new one goes
-  is_heard old new one goes is = record { taken = inr (inl is) }
+  pub says_wanting : (hall : Hallful D) (session number : ℕ) (told : Posted) → (session ≡ 0 → number ≡ hall.manager.lines)
+      → (1 ≤ session → (desk : Desk) → slice_get hall.desks (session - 1) ≡ Some desk → number ≡ desk.lines) → told.session ≡ session
+      → told.text ≡ memory_line session number → SaysWanting hall session told
+  says_wanting hall session number told manager desk whose is =
+      record { number = number; has_said = record { manager = manager; desk = desk }; session_is = whose; text_is = is }
 
-  pub wanting : (old mid new : Hallful D) (one : Said) → IsForgotten old mid → IsAnswered mid new → IsTakenUp old new one true
-  wanting old mid new one a b = record { taken = inr (inr (record { mid = mid; forgotten = a; answered = b; goes_on = refl })) }
+  pub wanting : (old mid new : Hallful D) (session : ℕ) (want told : Posted) → IsForgotten old mid → IsAnswered mid new
+      → SaysWanting mid session want → told ≡ want → IsWanting old new session told
+  wanting old mid new session want told a b says is =
+      record { mid = mid; forgotten = a; answered = b; says = subst (SaysWanting mid session) (sym is) says }
 
-  pub taken_up : (old first new : Hallful D) (one : Said) (goes : Bool) → IsCaughtUp old first one.session → IsTakenUp first new one goes
-      → IsTaken old new one goes
-  taken_up old first new one goes caught is = record { first = first; caught = caught; taken = is }
+  pub taken_up : (old first new : Hallful D) (one : Said) (taking : Taking) (goes : Bool) → IsCaughtUp old first one.session
+      → IsTakenUp first new one taking → goes ≡ goes_on taking → IsTaken old new one goes
+  taken_up old first new one taking goes caught taken is = record { first = first; caught = caught; taking = taking; taken = taken; goes_is = is }
 
   -- ---- who is behind
 
@@ -187,58 +194,61 @@ module _ {D : Type 0} where
     count_is = count ∙ a.count_is;
   }
 
-  pub apart : (old mid new : Hallful D) (one : Said) (goes : Bool) → IsTaken old mid one goes → IsWordAnswered mid new → IsTakenApart old new one goes
-  apart old mid new one goes a b = record { mid = mid; taken = a; answered = b }
+  pub apart : (closes : Bool) (old mid new : Hallful D) (one : Said) (goes : Bool) → IsTaken old mid one goes → IsWordClosed closes mid new
+      → IsTakenApart closes old new one goes
+  apart closes old mid new one goes a b = record { mid = mid; taken = a; answered = b }
 
-  pub one_apart : {E : Type 0} (old first new : Hallful D) (one : Said) (r : Result Bool E) → is_apart one.line.items ≡ true
-      → IsAnswered old first → IfOk r (IsTakenApart first new one) → IfOk r (IsOne old new one)
-  one_apart old first new one (Ok goes) is a b =
-      subst (λ (x : Bool). IsOneBy x old new one goes) (sym is) (record { first = first; ahead = a; apart = b })
-  one_apart old first new one (Err e) is a b = tt
+  pub one_apart : {E : Type 0} (closes : Bool) (old first new : Hallful D) (one : Said) (r : Result Bool E) → is_apart one.line.items ≡ true
+      → IsAnswered old first → IfOk r (IsTakenApart closes first new one) → IfOk r (IsOne closes old new one)
+  one_apart closes old first new one (Ok goes) is a b =
+      subst (λ (x : Bool). IsOneBy x closes old new one goes) (sym is) (record { first = first; ahead = a; apart = b })
+  one_apart closes old first new one (Err e) is a b = tt
 
-  pub one_plain : {E : Type 0} (old new : Hallful D) (one : Said) (r : Result Bool E) → is_apart one.line.items ≡ false
-      → IfOk r (IsTaken old new one) → IfOk r (IsOne old new one)
-  one_plain old new one (Ok goes) is a = subst (λ (x : Bool). IsOneBy x old new one goes) (sym is) a
-  one_plain old new one (Err e) is a = tt
+  pub one_plain : {E : Type 0} (closes : Bool) (old new : Hallful D) (one : Said) (r : Result Bool E) → is_apart one.line.items ≡ false
+      → IfOk r (IsTaken old new one) → IfOk r (IsOne closes old new one)
+  one_plain closes old new one (Ok goes) is a = subst (λ (x : Bool). IsOneBy x closes old new one goes) (sym is) a
+  one_plain closes old new one (Err e) is a = tt
 
   -- ---- groups
 
-  pub none_taken : (hall : Hallful D) → AreTaken hall [] hall true
-  none_taken hall = (refl, refl)
+  pub none_taken : (closes : Bool) (hall : Hallful D) → AreTaken closes hall [] hall true
+  none_taken closes hall = (refl, refl)
 
-  taken_on : (old mid new : Hallful D) (said : List Said) (one : Said) (goes more : Bool) → AreTaken old said mid goes → IsOne mid new one more
-      → AreTaken old (said ++ one ∷ []) new (goes && more)
-  taken_on old mid new [] one goes more a b = (
+  taken_on : (closes : Bool) (old mid new : Hallful D) (said : List Said) (one : Said) (goes more : Bool) → AreTaken closes old said mid goes
+      → IsOne closes mid new one more → AreTaken closes old (said ++ one ∷ []) new (goes && more)
+  taken_on closes old mid new [] one goes more a b = (
     new,
     more,
     true,
-    subst (λ (h : Hallful D). IsOne h new one more) a.0 b,
+    subst (λ (h : Hallful D). IsOne closes h new one more) a.0 b,
     (refl, refl),
     ap (λ (x : Bool). x && more) a.1 ∙ sym (true_and more) ∙ sym (and-true more),
   )
-  taken_on old mid new (x ∷ said) one goes more a b = (
+  taken_on closes old mid new (x ∷ said) one goes more a b = (
     a.0,
     a.1,
     a.2 && more,
     a.3,
-    taken_on a.0 mid new said one a.2 more a.4 b,
+    taken_on closes a.0 mid new said one a.2 more a.4 b,
     ap (λ (x : Bool). x && more) a.5 ∙ and_assoc a.1 a.2 more,
   )
 
-  pub taken_more : (old mid new : Hallful D) (said : List Said) (i : ℕ) (one : Said) (goes more both : Bool) → AreTaken old (take i said) mid goes
-      → i < length said → IsOne mid new one more → one ≡ get_or said i one → both ≡ (goes && more) → AreTaken old (take (i + 1) said) new both
-  taken_more old mid new said i one goes more both a in_range b here is =
+  pub taken_more : (closes : Bool) (old mid new : Hallful D) (said : List Said) (i : ℕ) (one : Said) (goes more both : Bool)
+      → AreTaken closes old (take i said) mid goes → i < length said → IsOne closes mid new one more → one ≡ get_or said i one
+      → both ≡ (goes && more) → AreTaken closes old (take (i + 1) said) new both
+  taken_more closes old mid new said i one goes more both a in_range b here is =
       let longer : take (i + 1) said ≡ take i said ++ one ∷ [] =
       take_more said i one in_range ∙ ap (λ (x : Said). take i said ++ x ∷ []) (sym here) in
-      subst (λ (l : List Said). AreTaken old l new both) (sym longer)
-      (subst (λ (x : Bool). AreTaken old (take i said ++ one ∷ []) new x) (sym is) (taken_on old mid new (take i said) one goes more a b))
+      subst (λ (l : List Said). AreTaken closes old l new both) (sym longer)
+      (subst (λ (x : Bool). AreTaken closes old (take i said ++ one ∷ []) new x) (sym is)
+      (taken_on closes old mid new (take i said) one goes more a b))
 
-  pub is_group : (closes is_to_close : Bool) (old mid new : Hallful D) (said : List Said) (i : ℕ) (goes : Bool) → AreTaken old (take i said) mid goes
-      → length said ≤ i → is_to_close ≡ (closes && has_day said) → IsToldLast is_to_close mid new → IsGroup closes old said new goes
-  is_group closes is_to_close old mid new said i goes a over is b = record {
+  pub is_group : (closes : Bool) (old mid new : Hallful D) (said : List Said) (i : ℕ) (goes : Bool) → AreTaken closes old (take i said) mid goes
+      → length said ≤ i → IsToldOn mid new → IsGroup closes old said new goes
+  is_group closes old mid new said i goes a over b = record {
     mid = mid;
-    taken = subst (λ (l : List Said). AreTaken old l mid goes) (take_all i said over) a;
-    answered = subst (λ (t : Bool). IsToldLast t mid new) is b;
+    taken = subst (λ (l : List Said). AreTaken closes old l mid goes) (take_all i said over) a;
+    answered = b;
   }
 
   -- ---- a service

@@ -1,16 +1,20 @@
 -- The lines of a group, heard one by one, and what each desk is told of them.
-use Rattle.std.specs.Prelude.{◌≡◌, ◌⊎◌, ◌<◌, ◌+◌, ◌==◌, ◌&&◌, if◌then◌else◌, ◌++◌, ℕ, zero, suc, Bool, true, false, List, [], ◌∷◌, length, map, replicate, is_some, Option, None, All}
-use Rattle.airline_base.specs.Lines.{line_at}
-use Rattle.desk_hall.specs.Departed.{closings}
+use Rattle.std.specs.Prelude.{◌≡◌, ◌<◌, ◌≤◌, ◌-◌, ◌+◌, ◌&&◌, ◌++◌, ℕ, zero, suc, Bool, true, false, List, [], ◌∷◌, codes, length, map, replicate, is_some, slice_get, Option, Some, None, All}
+use Rattle.desk_answers.specs.FaultLines.{fault_line, memory_line}
+use Rattle.desk_hall.specs.Departed.{closings, is_day_given}
 use Rattle.desk_hall.specs.Halls.{Hallful, IsOpened, IsPiece, IsSameHall, IsSet, IsToldTo}
-use Rattle.desk_hall.specs.Orders.{day_at}
 use Rattle.desk_hall.specs.Pieces.{again_asked, backlog_of}
+use Rattle.desk_lines.specs.declared.desk.Desk.{Desk}
 use Rattle.desk_pipes.specs.Waiting.{Posted}
 use Rattle.desk_pipes.specs.declared.inbox.Said.{Said}
 use Rattle.desk_serving.specs.Going.{is_apart, IsHeardBehind}
 use Rattle.desk_serving.specs.Silence.{IsSilentAt}
+use Rattle.desk_serving.specs.declared.closing.Closing.{Closing}
+use Rattle.desk_serving.specs.declared.closing.Closing.TheVariants.{Wanting, Whole}
 use Rattle.desk_serving.specs.declared.step.Step.{Step}
 use Rattle.desk_serving.specs.declared.step.Step.TheVariants.{Full, NotBehind, Told}
+use Rattle.desk_serving.specs.declared.taking.Taking.{Taking}
+use Rattle.desk_serving.specs.declared.taking.Taking.TheVariants.{Forgotten, Heard, Nobodys}
 use Rattle.seat_journal.specs.declared.entry.Control.{Control}
 use Rattle.seat_journal.specs.declared.entry.Entry.{Entry}
 use Rattle.seat_serving.specs.Answering.{behind}
@@ -117,13 +121,67 @@ pub record IsToldOn {D : Type 0} (old new : Hallful D) : Type 0 where
   pub answered : IsAnswered old mid
   pub pieces : AreSteps (length mid.desks + 1) mid new
 
+-- ---- what departed
+
+-- these are set one by one
+abbrev pub AreSet : {D : Type 0} → Hallful D → List Control → Hallful D → Type 0
+AreSet {D} old [] new = new ≡ old
+AreSet {D} old (control ∷ controls) new = (mid : Hallful D) × IsSet old mid control × AreSet mid controls new
+
+-- so are the first of them
+pub record AreFirstSet {D : Type 0} (old : Hallful D) (controls : List Control) (new : Hallful D) : Type 0 where
+  pub front : List Control
+  pub rest : List Control
+  pub parts : controls ≡ front ++ rest
+  pub are_set : AreSet old front new
+
+-- the manager's day stands, and not each leg that departed before it is closed
+abbrev pub unclosed_line : List ℕ
+unclosed_line = fault_line (codes "- UNCLOSED")
+
+-- the manager is told so
+pub record SaysUnclosed (told : Posted) : Type 0 where
+  pub session_is : told.session ≡ 0
+  pub text_is : told.text ≡ unclosed_line
+
+-- all that departed before the day of the host is set to be closed, or, where memory was wanting, the first of it, and the manager is told that it is not all
+abbrev pub AreClosed : {D : Type 0} → Hallful D → Hallful D → Closing → Type 0
+AreClosed old new Whole = AreSet old (closings old) new
+AreClosed old new (Wanting told) = AreFirstSet old (closings old) new × SaysUnclosed told
+
+-- where the journal has room for a line of each, none of it has a class open then
+abbrev pub LeavesNone : {D : Type 0} → Hallful D → Hallful D → Closing → Type 0
+LeavesNone old new Whole = length old.serving.journal + length (closings old) ≤ old.serving.cap → closings new ≡ []
+LeavesNone old new (Wanting told) = Unit {0}
+
+-- and what is set is answered, ahead of what the manager is told of the rest
+pub record IsClosing {D : Type 0} (old new : Hallful D) (closing : Closing) : Type 0 where
+  pub mid : Hallful D
+  pub closed : AreClosed old mid closing
+  pub answered : IsAnswered mid new
+  pub none_left : LeavesNone old new closing
+
+pub record IsClosed {D : Type 0} (old new : Hallful D) : Type 0 where
+  pub closing : Closing
+  pub is : IsClosing old new closing
+
+-- what departed is closed, where it is to be
+abbrev pub IsClosedIf : {D : Type 0} → Bool → Hallful D → Hallful D → Type 0
+IsClosedIf true old new = IsClosed old new
+IsClosedIf false old new = new ≡ old
+
+-- a word to the host is answered, and behind a day that the manager gives what departed is closed, by a host that closes it
+pub record IsWordClosed {D : Type 0} (closes : Bool) (old new : Hallful D) : Type 0 where
+  pub mid : Hallful D
+  pub answered : IsWordAnswered old mid
+  pub closed : IsClosedIf (closes && is_day_given old.turns) mid new
+
 -- ---- a line
 
 -- a line of a session that no desk has is passed over
-pub record IsNobodys {D : Type 0} (old new : Hallful D) (one : Said) (goes : Bool) : Type 0 where
+pub record IsNobodys {D : Type 0} (old new : Hallful D) (one : Said) : Type 0 where
   pub nobodys : length old.desks < one.session
   pub same : new ≡ old
-  pub goes_on : goes ≡ true
 
 -- memory was wanting for a line: nothing comes of it
 pub record IsForgotten {D : Type 0} (old new : Hallful D) : Type 0 where
@@ -135,88 +193,76 @@ pub record IsForgotten {D : Type 0} (old new : Hallful D) : Type 0 where
   pub backlogs_are : new.backlogs ≡ old.backlogs
   pub count_is : length new.desks ≡ length old.desks
 
--- and all ahead of it is answered
-pub record IsWanting {D : Type 0} (old new : Hallful D) (goes : Bool) : Type 0 where
+-- how many lines the manager has said, or a session's desk
+pub record HasSaid {D : Type 0} (hall : Hallful D) (session number : ℕ) : Type 0 where
+  pub manager : session ≡ 0 → number ≡ hall.manager.lines
+  pub desk : 1 ≤ session → (desk : Desk) → slice_get hall.desks (session - 1) ≡ Some desk → number ≡ desk.lines
+
+-- its desk is told that memory was wanting for its last line
+pub record SaysWanting {D : Type 0} (hall : Hallful D) (session : ℕ) (told : Posted) : Type 0 where
+  pub number : ℕ
+  pub has_said : HasSaid hall session number
+  pub session_is : told.session ≡ session
+  pub text_is : told.text ≡ memory_line session number
+
+-- all ahead of it is answered, and then its desk is told so
+pub record IsWanting {D : Type 0} (old new : Hallful D) (session : ℕ) (told : Posted) : Type 0 where
   pub mid : Hallful D
   pub forgotten : IsForgotten old mid
   pub answered : IsAnswered mid new
-  pub goes_on : goes ≡ true
+  pub says : SaysWanting mid session told
 
--- a line is heard, and the host goes on or not
-pub record IsTakenUp {D : Type 0} (old new : Hallful D) (one : Said) (goes : Bool) : Type 0 where
-  pub taken : IsNobodys old new one goes
-      ⊎ (IsHeardBehind one.is_earlier old new one.session one.passed one.line.items goes ⊎ IsWanting old new goes)
+-- what becomes of a line: nobody's is passed over, and it is heard, or forgotten
+abbrev pub IsTakenUp : {D : Type 0} → Hallful D → Hallful D → Said → Taking → Type 0
+IsTakenUp old new one Nobodys = IsNobodys old new one
+IsTakenUp old new one (Heard goes) = IsHeardBehind one.is_earlier old new one.session one.passed one.line.items goes
+IsTakenUp old new one (Forgotten told) = IsWanting old new one.session told
+
+-- only a line that is heard may end the host
+abbrev pub goes_on : Taking → Bool
+goes_on (Heard goes) = goes
+goes_on taking = true
 
 -- where its desk was told all that it asked for ahead of it
 pub record IsTaken {D : Type 0} (old new : Hallful D) (one : Said) (goes : Bool) : Type 0 where
   pub first : Hallful D
   pub caught : IsCaughtUp old first one.session
-  pub taken : IsTakenUp first new one goes
+  pub taking : Taking
+  pub taken : IsTakenUp first new one taking
+  pub goes_is : goes ≡ goes_on taking
 
--- a word to the host that is no look is heard behind the answers to all ahead of it, and answered ahead of all behind it
-pub record IsTakenApart {D : Type 0} (old new : Hallful D) (one : Said) (goes : Bool) : Type 0 where
+-- a word to the host that is no look is heard behind the answers to all ahead of it, and answered ahead of all behind it; so is what a host that closes
+-- what departed closes behind a day
+pub record IsTakenApart {D : Type 0} (closes : Bool) (old new : Hallful D) (one : Said) (goes : Bool) : Type 0 where
   pub mid : Hallful D
   pub taken : IsTaken old mid one goes
-  pub answered : IsWordAnswered mid new
+  pub answered : IsWordClosed closes mid new
 
-pub record IsBetween {D : Type 0} (old new : Hallful D) (one : Said) (goes : Bool) : Type 0 where
+pub record IsBetween {D : Type 0} (closes : Bool) (old new : Hallful D) (one : Said) (goes : Bool) : Type 0 where
   pub first : Hallful D
   pub ahead : IsAnswered old first
-  pub apart : IsTakenApart first new one goes
+  pub apart : IsTakenApart closes first new one goes
 
-abbrev pub IsOneBy : {D : Type 0} → Bool → Hallful D → Hallful D → Said → Bool → Type 0
-IsOneBy true old new one goes = IsBetween old new one goes
-IsOneBy false old new one goes = IsTaken old new one goes
+abbrev pub IsOneBy : {D : Type 0} → Bool → Bool → Hallful D → Hallful D → Said → Bool → Type 0
+IsOneBy true closes old new one goes = IsBetween closes old new one goes
+IsOneBy false closes old new one goes = IsTaken old new one goes
 
-abbrev pub IsOne : {D : Type 0} → Hallful D → Hallful D → Said → Bool → Type 0
-IsOne old new one goes = IsOneBy (is_apart one.line.items) old new one goes
+abbrev pub IsOne : {D : Type 0} → Bool → Hallful D → Hallful D → Said → Bool → Type 0
+IsOne closes old new one goes = IsOneBy (is_apart one.line.items) closes old new one goes
 
 -- ---- groups
 
 -- one line behind the other; the host goes on where none of them ends it
-abbrev pub AreTaken : {D : Type 0} → Hallful D → List Said → Hallful D → Bool → Type 0
-AreTaken {D} old [] new goes = (new ≡ old) × (goes ≡ true)
-AreTaken {D} old (one ∷ said) new goes =
-    (mid : Hallful D) × (first more : Bool) × IsOne old mid one first × AreTaken mid said new more × (goes ≡ (first && more))
-
--- ---- what departed
-
--- the manager gives a day
-abbrev pub gives_day : Said → Bool
-gives_day one = (one.session == 0) && is_some (day_at (line_at one.line.items).0)
-
-abbrev pub has_day : List Said → Bool
-has_day [] = false
-has_day (one ∷ said) = if gives_day one then true else has_day said
-
--- these are set one by one
-abbrev pub AreSet : {D : Type 0} → Hallful D → List Control → Hallful D → Type 0
-AreSet {D} old [] new = new ≡ old
-AreSet {D} old (control ∷ controls) new = (mid : Hallful D) × IsSet old mid control × AreSet mid controls new
-
--- so are the first of them, as many as memory allows
-pub record AreFirstSet {D : Type 0} (old : Hallful D) (controls : List Control) (new : Hallful D) : Type 0 where
-  pub front : List Control
-  pub rest : List Control
-  pub parts : controls ≡ front ++ rest
-  pub are_set : AreSet old front new
-
--- each leg that departed before the day of the host is closed, where it is to be
-abbrev pub IsClosedIf : {D : Type 0} → Bool → Hallful D → Hallful D → Type 0
-IsClosedIf true old new = AreFirstSet old (closings old) new
-IsClosedIf false old new = new ≡ old
-
--- and then all that was heard is answered
-pub record IsToldLast {D : Type 0} (closes : Bool) (old new : Hallful D) : Type 0 where
-  pub mid : Hallful D
-  pub closed : IsClosedIf closes old mid
-  pub answered : IsToldOn mid new
+abbrev pub AreTaken : {D : Type 0} → Bool → Hallful D → List Said → Hallful D → Bool → Type 0
+AreTaken {D} closes old [] new goes = (new ≡ old) × (goes ≡ true)
+AreTaken {D} closes old (one ∷ said) new goes =
+    (mid : Hallful D) × (first more : Bool) × IsOne closes old mid one first × AreTaken closes mid said new more × (goes ≡ (first && more))
 
 -- each line of a group is taken once, in their order, all of them are answered, and then whoever is behind and has room is told a piece
 pub record IsGroup {D : Type 0} (closes : Bool) (old : Hallful D) (said : List Said) (new : Hallful D) (goes : Bool) : Type 0 where
   pub mid : Hallful D
-  pub taken : AreTaken old said mid goes
-  pub answered : IsToldLast (closes && has_day said) mid new
+  pub taken : AreTaken closes old said mid goes
+  pub answered : IsToldOn mid new
 
 -- one group behind the other, none of which ends the host
 abbrev pub AreGroups : {D : Type 0} → Bool → Hallful D → List (List Said) → Hallful D → Type 0
@@ -248,7 +294,7 @@ pub record IsHallOver {D : Type 0} (flights : List Flown) (serving : Served D) (
   pub manager : IsSilentAt epoch hall.manager
   pub silent : All (IsSilentAt epoch) hall.desks
 
--- the journal is that of the groups that were answered up to the manager's end, by a host that closes what departed or does not
+-- the journal is that of the groups that were answered up to the manager's end, by a host that closes what departed behind each day, or does not
 pub record IsServedTo {D : Type 0} (closes : Bool) (flights : List Flown) (serving : Served D) (today epoch : ℕ) (journal : List Entry)
     : Type 0 where
   pub old : Hallful D

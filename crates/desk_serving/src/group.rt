@@ -7,9 +7,10 @@ ghost use Rattle.desk_serving.specs.Going.{is_apart, Fails, GoesOn, IsHeardBehin
 ghost use Rattle.desk_serving.specs.Groups.{IsForgotten, IsGroup, IsOne, IsTaken, IsTakenApart, IsTakenUp};
 
 use crate::day::{GroupFault, keep_day};
-use crate::departing::has_day;
+use crate::departing::answer_closing;
 use crate::notice::want_of;
-use crate::telling::{answer_closing, answer_heard, answer_word, catch_up};
+use crate::taking::{Taking, goes_on};
+use crate::telling::{answer_heard, answer_last, catch_up};
 use airline_base::Memory;
 use desk_hall::Hall;
 use desk_pipes::{Post, Said};
@@ -20,7 +21,7 @@ use std::alloc::Global;
 use std::sync::Wait;
 
 /// Hears these lines in their order, books what they ask for, and tells each desk what concerns it. A word to the host that is no look is
-/// answered behind all ahead of it and ahead of all behind it. Behind a day of the manager's what departed before it is closed, where that is asked for.
+/// answered behind all ahead of it and ahead of all behind it, and so is what is closed behind a day of the manager's, where that is asked for.
 /// Then each desk that is told the journal again is told a piece, where it has room.
 /// Whether the host goes on.
 #[tactic(auto, using(crate::proofs::Goes::goes_same, crate::proofs::Goes::goes_further, crate::proofs::Goes::fails_behind, crate::proofs::Daily::fails_by_behind, crate::proofs::Daily::sealed_same, crate::proofs::Daily::sealed_further, crate::proofs::Daily::sealed_as, crate::proofs::Daily::stays_behind, crate::proofs::Daily::stays_on, crate::proofs::Daily::on_day_of, crate::proofs::Daily::by_inventory, crate::proofs::Daily::counts_none, crate::proofs::Groups::none_taken, crate::proofs::Groups::is_group))]
@@ -45,13 +46,12 @@ pub(crate) fn answer_group<R: Wait, D: Tape, K: Replaced>(
 {
     let mut goes_on = true;
     for one in said {
-        match answer_one(rt, alloc, hall, post, one, entry, seals) {
+        match answer_one(rt, alloc, hall, post, closes, one, entry, seals) {
             Ok(more) => goes_on = both(goes_on, more),
             Err(fault) => return Err(fault),
         }
     }
-    let is_to_close = both(closes, has_day(said));
-    match answer_closing(rt, alloc, hall, post, is_to_close, entry, seals) {
+    match answer_last(rt, alloc, hall, post, entry, seals) {
         Ok(()) => Ok(goes_on),
         Err(fault) => Err(GroupFault::Serve(fault)),
     }
@@ -70,13 +70,14 @@ fn answer_one<R: Wait, D: Tape, K: Replaced>(
     alloc: Global,
     hall: &mut Hall<'_, D>,
     post: &Post,
+    closes: bool,
     one: &Said,
     entry: &mut Sealed,
     seals: &mut K,
 ) -> Result<bool, GroupFault>
     requires ready { IsReady D.seen D.may_leave D.unsynced hall.old.serving }
     requires dated { IsOnDay hall.old.today entry.old (K.may_leave seals.old) }
-    ensures one { IfOk result (IsOne hall.old hall.new one.now) }
+    ensures one { IfOk result (IsOne closes hall.old hall.new one.now) }
     ensures goes { OnOk result (GoesOn D.seen D.may_leave D.unsynced D.failure_count hall.old.serving hall.new.serving) }
     ensures fails { IfErr result (FailsBy D.seen D.may_leave D.unsynced D.failure_count hall.old.serving hall.new.serving) }
     ensures sealed { OnOk result (IsSealedOn K.named K.may_leave K.kept_may_leave K.failure_count hall.new.today entry.old entry.new seals.old seals.new) }
@@ -92,23 +93,24 @@ fn answer_one<R: Wait, D: Tape, K: Replaced>(
     if one.line.as_slice().starts_with(b"?HELLO ") {
         post.begin(rt, one.session);
     }
-    hear_apart(rt, alloc, hall, post, one, entry, seals)
+    hear_apart(rt, alloc, hall, post, closes, one, entry, seals)
 }
 
-// Hears a line, and answers it ahead of all behind it.
+// Hears a line, and answers it, and what is closed behind it, ahead of all behind it.
 #[tactic(auto, using(crate::proofs::Goes::goes_further, crate::proofs::Goes::fails_behind, crate::proofs::Daily::fails_by_behind, crate::proofs::Daily::sealed_as, crate::proofs::Daily::stays_on, crate::proofs::Daily::on_day_of, crate::proofs::Daily::by_inventory, crate::proofs::Daily::counts_none, crate::proofs::Groups::apart))]
 fn hear_apart<R: Wait, D: Tape, K: Replaced>(
     rt: &R,
     alloc: Global,
     hall: &mut Hall<'_, D>,
     post: &Post,
+    closes: bool,
     one: &Said,
     entry: &mut Sealed,
     seals: &mut K,
 ) -> Result<bool, GroupFault>
     requires ready { IsReady D.seen D.may_leave D.unsynced hall.old.serving }
     requires dated { IsOnDay hall.old.today entry.old (K.may_leave seals.old) }
-    ensures apart { IfOk result (IsTakenApart hall.old hall.new one.now) }
+    ensures apart { IfOk result (IsTakenApart closes hall.old hall.new one.now) }
     ensures goes { OnOk result (GoesOn D.seen D.may_leave D.unsynced D.failure_count hall.old.serving hall.new.serving) }
     ensures fails { IfErr result (FailsBy D.seen D.may_leave D.unsynced D.failure_count hall.old.serving hall.new.serving) }
     ensures sealed { OnOk result (IsSealedOn K.named K.may_leave K.kept_may_leave K.failure_count hall.new.today entry.old entry.new seals.old seals.new) }
@@ -119,7 +121,7 @@ fn hear_apart<R: Wait, D: Tape, K: Replaced>(
         Ok(goes_on) => goes_on,
         Err(fault) => return Err(fault),
     };
-    match answer_word(rt, alloc, hall, post, entry, seals) {
+    match answer_closing(rt, alloc, hall, post, closes, entry, seals) {
         Ok(()) => Ok(goes_on),
         Err(fault) => Err(GroupFault::Serve(fault)),
     }
@@ -187,13 +189,13 @@ fn hear_one<R: Wait, D: Tape, K: Replaced>(
         return Err(fault);
     }
     match hear_next(rt, alloc, hall, post, one, entry, seals) {
-        Ok(goes_on) => Ok(goes_on),
+        Ok(taking) => Ok(goes_on(&taking)),
         Err(fault) => Err(fault),
     }
 }
 
 // Hears a line, or says that memory is wanting for it.
-#[tactic(auto, using(crate::proofs::Goes::goes_same, crate::proofs::Goes::goes_further, crate::proofs::Goes::fails_behind, crate::proofs::Goes::ready_as, crate::proofs::Daily::day_as, crate::proofs::Groups::nobodys, crate::proofs::Groups::is_heard, crate::proofs::Groups::wanting))]
+#[tactic(auto, using(crate::proofs::Goes::goes_same, crate::proofs::Goes::goes_further, crate::proofs::Goes::fails_behind, crate::proofs::Goes::ready_as, crate::proofs::Daily::day_as, crate::proofs::Groups::nobodys, crate::proofs::Groups::wanting))]
 fn hear_next<R: Wait, D: Tape, K: Replaced>(
     rt: &R,
     alloc: Global,
@@ -202,7 +204,7 @@ fn hear_next<R: Wait, D: Tape, K: Replaced>(
     one: &Said,
     entry: &Sealed,
     seals: &K,
-) -> Result<bool, ServeFault>
+) -> Result<Taking, ServeFault>
     requires ready { IsReady D.seen D.may_leave D.unsynced hall.old.serving }
     requires told { backlog_of hall.old.backlogs one.now.session ≡ None }
     requires dated { IsOnDay hall.old.today entry.now (K.may_leave seals.now) }
@@ -213,9 +215,9 @@ fn hear_next<R: Wait, D: Tape, K: Replaced>(
 {
     let session = one.session;
     if session > hall.count() {
-        return Ok(true);
+        return Ok(Taking::Nobodys);
     }
-    if let Ok(goes_on) = hear(
+    if let Ok(goes) = hear(
         alloc,
         hall,
         session,
@@ -223,14 +225,11 @@ fn hear_next<R: Wait, D: Tape, K: Replaced>(
         one.line.as_slice(),
         one.is_earlier,
     ) {
-        return Ok(goes_on);
+        return Ok(Taking::Heard(goes));
     }
-    let want = want_of(session, hall.lines_of(session));
+    let want = want_of(hall, session);
     match answer_heard(rt, alloc, hall, post, entry, seals) {
-        Ok(()) => {
-            let _told = post.deliver(rt, want);
-            Ok(true)
-        }
+        Ok(()) => Ok(Taking::Forgotten(post.deliver(rt, want))),
         Err(fault) => Err(fault),
     }
 }

@@ -3,6 +3,7 @@
 //! It knows the host's desks, inbox and outboxes, and nothing of the command line, of what pipes are or of what a line means.
 #![tactic(auto)]
 
+mod closing;
 mod counting;
 mod day;
 mod departing;
@@ -12,6 +13,7 @@ mod opening;
 mod pieces;
 mod serving;
 mod step;
+mod taking;
 mod telling;
 
 pub use serving::{HostedFault, serve_desks};

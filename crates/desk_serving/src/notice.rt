@@ -1,11 +1,11 @@
 //! What a desk is told. A notice is made here alone, each by a clause that says why it is that desk's, and it goes into the outbox of its own session.
 //! It knows a hall, and nothing of outboxes, of looks or of the seal.
 ghost use Rattle.std.specs.Prelude.{◌≡◌, ◌≤◌, None, IfOk, OnOk, length};
-ghost use Rattle.desk_answers.specs.FaultLines.{memory_line};
 ghost use Rattle.desk_hall.specs.Pieces.{backlog_of};
-ghost use Rattle.desk_serving.specs.Groups.{IsGiven, IsOwn};
+ghost use Rattle.desk_serving.specs.Groups.{unclosed_line, IsGiven, IsOwn, SaysUnclosed, SaysWanting};
 
 use airline_base::Memory;
+use airline_base::spelling::put;
 use arrayvec::ArrayVec;
 use desk_answers::memory_line;
 use desk_hall::Hall;
@@ -86,7 +86,7 @@ pub(crate) fn rest_of<D: Tape>(
     Ok(Notice { session, text })
 }
 
-/// That memory was wanting for a line, which takes none.
+/// That memory was wanting, which takes none.
 #[derive(Drop)]
 pub struct Want {
     session: u8,
@@ -113,13 +113,34 @@ impl Letter for Want {
     }
 }
 
-/// It is told to the desk of the session whose line of this number it was.
-pub(crate) fn want_of(session: u8, number: u32) -> Want
-    ensures own { result.session ≡ session }
-    ensures text { result.text ≡ memory_line session number }
+/// It is told to the desk of the session whose last line it was.
+#[tactic(auto, using(crate::proofs::Groups::says_wanting))]
+pub(crate) fn want_of<D: Tape>(hall: &Hall<'_, D>, session: u8) -> Want
+    requires session { session ≤ length hall.now.desks }
+    ensures { SaysWanting hall.now session result }
 {
+    let number = hall.lines_of(session);
     Want {
         session,
         text: memory_line(session, number),
     }
+}
+
+/// That memory was wanting to close all that departed before the day that holds. It is told to the manager.
+#[tactic(auto, using(crate::proofs::Closings::says_unclosed))]
+pub(crate) fn unclosed() -> Want
+    ensures { SaysUnclosed result }
+{
+    Want {
+        session: 0,
+        text: unclosed_line(),
+    }
+}
+
+fn unclosed_line() -> ArrayVec<u8, 40>
+    ensures { result.items ≡ unclosed_line }
+{
+    let mut text = ArrayVec::new();
+    put(&mut text, b"FAULT - UNCLOSED\n");
+    text
 }

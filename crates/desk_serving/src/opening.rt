@@ -10,6 +10,7 @@ use desk_answers::OpenHost;
 use desk_calls::CallIndex;
 use desk_hall::Hall;
 use desk_lines::Desk;
+use flight_days::DayFlights;
 use seat_disk::Tape;
 use ssim_flights::{Flights, Served};
 use std::alloc::Global;
@@ -36,6 +37,9 @@ pub(crate) fn hall_over<'a, R: Wait, D: Tape>(
     let Ok(served) = Served::new(alloc, flights) else {
         return Err(serving.close(rt));
     };
+    let Ok(days) = DayFlights::new(alloc, flights) else {
+        return Err(serving.close(rt));
+    };
     let Ok(desks) = silent_desks(alloc, today, epoch) else {
         return Err(serving.close(rt));
     };
@@ -45,6 +49,7 @@ pub(crate) fn hall_over<'a, R: Wait, D: Tape>(
     Ok(Hall::over(
         flights,
         served,
+        days,
         serving,
         today,
         desks,

@@ -5,9 +5,8 @@ ghost use Rattle.desk_answers.specs.Hosts.{IsReady};
 ghost use Rattle.desk_serving.specs.Daily.{IsOnDay};
 ghost use Rattle.desk_serving.specs.Going.{Fails, GoesOn};
 ghost use Rattle.desk_hall.specs.Pieces.{backlog_of};
-ghost use Rattle.desk_serving.specs.Groups.{AreTold, IsAnswered, IsBooked, IsCaughtUp, IsTold, IsToldLast, IsToldOn, IsWordAnswered};
+ghost use Rattle.desk_serving.specs.Groups.{AreTold, IsAnswered, IsBooked, IsCaughtUp, IsTold, IsToldOn, IsWordAnswered};
 
-use crate::departing::close_if;
 use crate::notice::{Notice, notice_of};
 use crate::pieces::{give_rest, tell_pieces};
 use airline_base::Memory;
@@ -76,7 +75,7 @@ pub(crate) fn answer_word<R: Wait, D: Tape, K: Replaced>(
 
 /// Answers what was heard, and then tells a piece to each desk that is behind and has room for it.
 #[tactic(auto, using(crate::proofs::Goes::goes_as, crate::proofs::Goes::fails_wanting, crate::proofs::Groups::told_on))]
-fn answer_last<R: Wait, D: Tape, K: Replaced>(
+pub(crate) fn answer_last<R: Wait, D: Tape, K: Replaced>(
     rt: &R,
     alloc: Global,
     hall: &mut Hall<'_, D>,
@@ -97,31 +96,6 @@ fn answer_last<R: Wait, D: Tape, K: Replaced>(
     match tell_pieces(rt, alloc, hall, post) {
         Ok(()) => Ok(()),
         Err(_) => Err(ServeFault::Memory),
-    }
-}
-
-/// Closes what departed, where it is to, and then does all of that.
-#[tactic(auto, using(crate::proofs::Goes::ready_as, crate::proofs::Goes::goes_from, crate::proofs::Goes::fails_from, crate::proofs::Daily::day_as, crate::proofs::Closings::told_last))]
-pub(crate) fn answer_closing<R: Wait, D: Tape, K: Replaced>(
-    rt: &R,
-    alloc: Global,
-    hall: &mut Hall<'_, D>,
-    post: &Post,
-    is_to_close: bool,
-    entry: &Sealed,
-    seals: &K,
-) -> Result<(), ServeFault>
-    requires ready { IsReady D.seen D.may_leave D.unsynced hall.old.serving }
-    requires dated { IsOnDay hall.old.today entry.now (K.may_leave seals.now) }
-    ensures answered { OnOk result (IsToldLast is_to_close hall.old hall.new) }
-    ensures goes { OnOk result (GoesOn D.seen D.may_leave D.unsynced D.failure_count hall.old.serving hall.new.serving) }
-    ensures fails { IfErr result (Fails D.seen D.may_leave D.unsynced D.failure_count hall.old.serving hall.new.serving) }
-    ensures day { hall.new.today ≡ hall.old.today }
-{
-    close_if(alloc, hall, is_to_close);
-    match answer_last(rt, alloc, hall, post, entry, seals) {
-        Ok(()) => Ok(()),
-        Err(fault) => Err(fault),
     }
 }
 

@@ -1,4 +1,4 @@
-use Rattle.std.proofs.Common.{◌∙◌, ◌&&◌, Bool, ap, arith}
+use Rattle.std.proofs.Common.{arith}
 use Rattle.desk_serving.proofs.Daily.{by_inventory, counts_behind, fails_by_behind, sealed_further, stays_behind}
 use Rattle.desk_serving.proofs.Goes.{fails_behind, goes_further}
 use Rattle.desk_serving.proofs.Groups.{is_group, taken_more}
@@ -20,11 +20,11 @@ returns-in-Err-clause-unsealed g c =
     c.args.entry.now c.loop-one.entry c.args.seals.now c.loop-one.seals c.answer_one.new.seals c.in-Err.fault c.loop-one.invariant.1
     c.in-Err.ensures.unsealed
 
-pub returns-in-Err-answer_closing-clause-fails : goal.returns-in-Err-answer_closing-clause-fails
-returns-in-Err-answer_closing-clause-fails g c =
-    by_inventory g.D.Tape.seen g.D.Tape.may_leave g.D.Tape.unsynced g.D.Failures.failure_count c.args.hall.now.serving c.answer_closing.new.hall.serving c.in-Err-answer_closing.fault
+pub returns-in-Err-answer_last-clause-fails : goal.returns-in-Err-answer_last-clause-fails
+returns-in-Err-answer_last-clause-fails g c =
+    by_inventory g.D.Tape.seen g.D.Tape.may_leave g.D.Tape.unsynced g.D.Failures.failure_count c.args.hall.now.serving c.answer_last.new.hall.serving c.in-Err-answer_last.fault
     (fails_behind g.D.Tape.seen g.D.Tape.may_leave g.D.Tape.unsynced g.D.Failures.failure_count c.args.hall.now.serving c.loop-one.hall.serving
-    c.answer_closing.new.hall.serving c.in-Err-answer_closing.fault c.loop-one.invariant.0 c.in-Err-answer_closing.ensures.fails)
+    c.answer_last.new.hall.serving c.in-Err-answer_last.fault c.loop-one.invariant.0 c.in-Err-answer_last.ensures.fails)
 
 pub loop-one-preserved : goal.loop-one-preserved
 loop-one-preserved g c = (
@@ -33,12 +33,11 @@ loop-one-preserved g c = (
   sealed_further g.K.Replaced.named g.K.Replaced.may_leave g.K.Replaced.kept_may_leave g.K.Failures.failure_count c.loop-one.hall.today
       c.answer_one.new.hall.today c.args.entry.now c.loop-one.entry c.answer_one.new.entry c.args.seals.now c.loop-one.seals
       c.answer_one.new.seals c.loop-one.invariant.1 c.in-Ok.ensures.sealed,
-  taken_more c.args.hall.now c.loop-one.hall c.answer_one.new.hall c.args.said.now c.loop-one.one-index c.one-item.result c.loop-one.goes_on c.in-Ok.more
+  taken_more c.args.closes c.args.hall.now c.loop-one.hall c.answer_one.new.hall c.args.said.now c.loop-one.one-index c.one-item.result c.loop-one.goes_on c.in-Ok.more
       c.both-goes_on.result c.loop-one.invariant.2 (omega (arith, c.loop-one-test.true)) c.in-Ok.ensures.one c.one-item.is c.both-goes_on.ensures,
 )
 
-pub returns-in-Ok-answer_closing-clause-group : goal.returns-in-Ok-answer_closing-clause-group
-returns-in-Ok-answer_closing-clause-group g c =
-    is_group c.args.closes c.both-is_to_close.result c.args.hall.now c.loop-one.hall c.answer_closing.new.hall c.args.said.now c.loop-one.one-index c.loop-one.goes_on
-    c.loop-one.invariant.2 (omega (arith, c.loop-one-test.false))
-    (c.both-is_to_close.ensures ∙ ap (λ (b : Bool). c.args.closes && b) c.has_day.ensures) c.in-Ok-answer_closing.ensures.answered
+pub returns-in-Ok-answer_last-clause-group : goal.returns-in-Ok-answer_last-clause-group
+returns-in-Ok-answer_last-clause-group g c =
+    is_group c.args.closes c.args.hall.now c.loop-one.hall c.answer_last.new.hall c.args.said.now c.loop-one.one-index c.loop-one.goes_on
+    c.loop-one.invariant.2 (omega (arith, c.loop-one-test.false)) c.in-Ok-answer_last.ensures.answered

@@ -10,5 +10,5 @@ returns-clause-fails g c =
 
 pub returns-clause-one : goal.returns-clause-one
 returns-clause-one g c =
-    one_apart c.args.hall.now c.answer_heard.new.hall c.hear_apart.new.hall c.args.one.now c.hear_apart.result (search rules)
+    one_apart c.args.closes c.args.hall.now c.answer_heard.new.hall c.hear_apart.new.hall c.args.one.now c.hear_apart.result (search rules)
     c.in_default.ensures.answered c.hear_apart.ensures.apart
