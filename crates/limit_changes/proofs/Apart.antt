@@ -1,11 +1,11 @@
 -- No leg is asked for twice.
-use Rattle.std.proofs.Common.{◌≡◌, ◌==◌, ◌&&◌, ℕ, ◌+◌, ◌≤◌, Bool, true, false, List, [], ◌∷◌, ◌++◌, arith, if◌then◌else◌, refl, sym, ap, ◌∙◌}
-use Rattle.std.specs.List.{AllByRecursion}
+use Rattle.std.proofs.Common.{◌≡◌, ◌==◌, ◌&&◌, ℕ, zero, suc, ◌+◌, Option, Some, subst, ◌≤◌, Bool, true, false, List, [], ◌∷◌, ◌++◌, arith, if◌then◌else◌, refl, sym, ap, ◌∙◌}
+use Rattle.std.specs.List.{AllByRecursion, slice_get}
 use Rattle.std.proofs.lemmas.Bool.{and_parts, eqb-true}
 use Rattle.ssim_flights.specs.declared.flight.DatedLeg.{DatedLeg}
 use Rattle.ssim_flights.specs.declared.flight.Flight.{Flight as Flown}
 use Rattle.seat_lists.specs.Picking.{keeps_flight}
-use Rattle.limit_changes.specs.Legs.{each_from, is_chosen, kept_leg, kept_on, legs_by, named_leg}
+use Rattle.limit_changes.specs.Legs.{each_from, every_leg, is_chosen, kept_leg, kept_on, legs_by, legs_on, named_alone, named_leg}
 use Rattle.limit_changes.specs.declared.legs.LegsAsked.{LegsAsked}
 use Rattle.limit_changes.specs.declared.legs.NamedLeg.{NamedLeg}
 use Rattle.limit_changes.proofs.Walking.{AreApart, is_at}
@@ -104,3 +104,47 @@ module _ (named : Bool) (all : List Flown) (asked : LegsAsked) where
 
   pub kept_apart : (flights : List Flown) → AreApart (legs_by named all asked flights)
   kept_apart flights = each_apart (λ k. k.flight) by_flight (kept_on named all asked) flight_apart flight_all 0 flights
+
+-- ---- all legs
+
+pub every_apart : (flights : List Flown) → AreApart (every_leg flights)
+every_apart flights = each_apart (λ k. k.flight) by_flight legs_on on_apart on_all 0 flights where
+  alone_apart : (i : ℕ) (flight : Flown) (j : ℕ) (leg : DatedLeg) → AreApart (named_alone i flight j leg)
+  alone_apart i flight j leg = (tt, tt)
+
+  on_apart : (i : ℕ) (flight : Flown) → AreApart (legs_on i flight)
+  on_apart i flight =
+      each_apart (λ k. k.leg) by_leg (named_alone i flight) (alone_apart i flight)
+      (λ (j : ℕ) (leg : DatedLeg). (refl, tt)) 0 flight.legs
+
+  on_all : (i : ℕ) (flight : Flown) → AllByRecursion (λ k. k.flight ≡ i) (legs_on i flight)
+  on_all i flight = all_from (λ k. k.flight ≡ i) (named_alone i flight) (λ (j : ℕ) (leg : DatedLeg). (refl, tt)) 0 flight.legs
+
+-- what holds of each item's part holds of the part of one
+module _ {A B : Type 0} (P : B → Type 0) (part : ℕ → A → List B) where
+  all_front : (xs ys : List B) → AllByRecursion P (xs ++ ys) → AllByRecursion P xs × AllByRecursion P ys
+  all_front [] ys all = (tt, all)
+  all_front (x ∷ xs) ys all = let rest = all_front xs ys all.1 in ((all.0, rest.0), rest.1)
+
+  pub part_all : (n i : ℕ) (xs : List A) (x : A) → slice_get xs i ≡ Some x → AllByRecursion P (each_from part n xs)
+      → AllByRecursion P (part (n + i) x)
+  part_all n i [] x at all = absurd cc
+  part_all n zero (y ∷ xs) x at all =
+      let same : y ≡ x = cc in
+      let whole : n + 0 ≡ n = omega arith in
+      rw whole (subst (λ (z : A). AllByRecursion P (part n z)) same (all_front (part n y) (each_from part (n + 1) xs) all).0)
+  part_all n (suc i) (y ∷ xs) x at all =
+      let next : n + 1 + i ≡ n + suc i = omega arith in
+      subst (λ (m : ℕ). AllByRecursion P (part m x)) next (part_all (n + 1) i xs x at (all_front (part n y) (each_from part (n + 1) xs) all).1)
+
+-- what holds of all legs holds of leg j of flight i
+pub every_at : (P : NamedLeg → Type 0) (flights : List Flown) (i j : ℕ) (flight : Flown) (leg : DatedLeg) → slice_get flights i ≡ Some flight
+    → slice_get flight.legs j ≡ Some leg → AllByRecursion P (every_leg flights) → P (named_leg i flight j leg)
+every_at P flights i j flight leg at_flight at_leg all =
+    let here : 0 + i ≡ i = omega arith in
+    let there : 0 + j ≡ j = omega arith in
+    let on : AllByRecursion P (legs_on i flight) =
+    subst (λ (n : ℕ). AllByRecursion P (legs_on n flight)) here (part_all P legs_on 0 i flights flight at_flight all) in
+    let alone : AllByRecursion P (named_alone i flight j leg) =
+    subst (λ (n : ℕ). AllByRecursion P (named_alone i flight n leg)) there (part_all P (named_alone i flight) 0 j flight.legs leg at_leg on) in
+    alone.0

@@ -81,11 +81,11 @@ few_of (s ∷ lower) few class w e = cases (s.class == class) e (few_of lower fe
   cases true h below = let same : s ≡ w = cc in subst (λ (x : Step). x.wait ≤ 999) same few.0
   cases false h below = below h
 
-bounded_waits : (steps : Steps) → AllByRecursion (λ s. (s.limit ≤ 999) × (s.wait ≤ 999)) steps → Waits steps
+pub bounded_waits : (steps : Steps) → AllByRecursion (λ s. (s.limit ≤ 999) × (s.wait ≤ 999)) steps → Waits steps
 bounded_waits [] all = tt
 bounded_waits (s ∷ lower) all = (all.0.1, bounded_waits lower all.1)
 
-bounded_limits : (steps : Steps) → AllByRecursion (λ s. (s.limit ≤ 999) × (s.wait ≤ 999)) steps → AllByRecursion (λ s. s.limit ≤ 999) steps
+pub bounded_limits : (steps : Steps) → AllByRecursion (λ s. (s.limit ≤ 999) × (s.wait ≤ 999)) steps → AllByRecursion (λ s. s.limit ≤ 999) steps
 bounded_limits [] all = tt
 bounded_limits (s ∷ lower) all = (all.0.0, bounded_limits lower all.1)
 

@@ -23,7 +23,7 @@ none_of_both [] ys e = (refl, e)
 none_of_both (x ∷ xs) ys e = absurd cc
 
 -- it has its wanted wait in any case
-reach_wait : (w : Step) (lowest highest : ℕ) (s : Step) → (raise_to (Some w) highest (cut_to (Some w) lowest s)).wait ≡ w.wait
+pub reach_wait : (w : Step) (lowest highest : ℕ) (s : Step) → (raise_to (Some w) highest (cut_to (Some w) lowest s)).wait ≡ w.wait
 reach_wait w lowest highest s = cases (nat_lt w.limit s.limit) refl where
   cut : Step
   cut = record s { limit = max w.limit lowest; wait = w.wait }

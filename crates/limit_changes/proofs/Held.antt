@@ -8,13 +8,14 @@ use Rattle.seat_nesting.specs.Changing.{step_of, top_of}
 use Rattle.seat_nesting.specs.declared.ladder.Step.{Step}
 use Rattle.seat_nesting.proofs.Rooms.{held_cons}
 use Rattle.seat_rules.specs.Sequential.{State}
-use Rattle.limit_changes.specs.Laws.{SameClasses, ShortIsHeld, all_held_over, held_over}
+use Rattle.limit_changes.specs.Laws.{RoomIsReached, SameClasses, SameRanks, ShortIsHeld, all_held_over, held_over}
 use Rattle.limit_changes.specs.Reaching.{cut_steps, cut_to, raise_steps, raise_to}
 use Rattle.limit_changes.specs.Rows.{seats_now, steps_now, wanted_on}
 use Rattle.limit_changes.specs.Shorts.{short_of, shorts_from}
 use Rattle.limit_changes.specs.declared.legs.NamedLeg.{NamedLeg}
 use Rattle.limit_changes.specs.declared.shorts.Short.{Short}
-use Rattle.limit_changes.proofs.Ranks.{cut_class, lowest_of, raise_class}
+use Rattle.limit_changes.proofs.Falling.{reach_wait}
+use Rattle.limit_changes.proofs.Ranks.{Alike, SameMarks, cut_class, held_alike, lowest_of, raise_class, same_step}
 
 -- ---- each rank beside what is wanted of it
 
@@ -184,12 +185,82 @@ all_short leg wanted seats (s ∷ lower) (w ∷ ws) highest pairs order within t
         ∙ one_short leg w s new h limit ((raise_class (step_of wanted cut.class) highest cut).0 ∙ kind)
         ∙ ap (λ (x : Option Step). held_over leg x h s) (sym pairs.0)
 
+top_of_all : (steps : Steps) → AllByRecursion (λ t. (t.limit ≤ 999) × (t.wait ≤ 999)) steps → top_of steps ≤ 999
+top_of_all [] all = omega arith
+top_of_all (t ∷ lower) all = all.0.0
+
 pub short_is_held : ShortIsHeld
 short_is_held wanted s leg now right within same =
     all_short leg (wanted_on wanted leg) (seats_now s leg) (steps_now s leg) (wanted_on wanted leg) 999
     (paired (wanted_on wanted leg) (steps_now s leg) (wanted_on wanted leg) same (each_found (wanted_on wanted leg) right.distinct))
     right.not_rising within (top_of_all (wanted_on wanted leg) right.bounded)
+
+-- ---- limits that have room for what is held
+
+pub alike_of : (steps ws : Steps) → SameRanks steps ws → Alike steps ws
+alike_of [] [] same = tt
+alike_of [] (w ∷ ws) same = absurd same
+alike_of (s ∷ lower) [] same = absurd same
+alike_of (s ∷ lower) (w ∷ ws) same = (same.0, record { listed = same.1; closed = same.2 }, alike_of lower ws same.3)
+
+classes_of : (steps ws : Steps) → SameRanks steps ws → SameClasses steps ws
+classes_of [] [] same = tt
+classes_of [] (w ∷ ws) same = absurd same
+classes_of (s ∷ lower) [] same = absurd same
+classes_of (s ∷ lower) (w ∷ ws) same = (same.0, classes_of lower ws same.3)
+
+all_wanted : (wanted : Steps) (seats : ByClass) (steps ws : Steps) (highest : ℕ) → Paired wanted steps ws → SameRanks steps ws → IsNotRising ws
+    → IsWithin steps seats → IsWithin ws seats → top_of ws ≤ highest
+    → raise_steps wanted highest (cut_steps wanted seats steps) ≡ ws
+all_wanted wanted seats [] [] highest pairs same order within room top = refl
+all_wanted wanted seats [] (w ∷ ws) highest pairs same order within room top = absurd same
+all_wanted wanted seats (s ∷ lower) [] highest pairs same order within room top = absurd same
+all_wanted wanted seats (s ∷ lower) (w ∷ ws) highest pairs same order within room top =
+    ap (λ (x : Step). x ∷ raise_steps wanted x.limit (cut_steps wanted seats lower)) whole
+    ∙ ap (λ (l : Steps). w ∷ l) (all_wanted wanted seats lower ws w.limit pairs.1 same.3 order.1 within.1 room.1 (top_under w ws order.0))
   where
-    top_of_all : (steps : Steps) → AllByRecursion (λ t. (t.limit ≤ 999) × (t.wait ≤ 999)) steps → top_of steps ≤ 999
-    top_of_all [] all = omega arith
-    top_of_all (t ∷ lower) all = all.0.0
+    h : ℕ
+    h = held_from seats (s ∷ lower)
+
+    cut : Step
+    cut = cut_to (step_of wanted s.class) (lowest_of wanted seats s lower) s
+
+    new : Step
+    new = raise_to (step_of wanted cut.class) highest cut
+
+    kind : (cut.class ≡ s.class) × SameMarks s cut
+    kind = cut_class (step_of wanted s.class) (lowest_of wanted seats s lower) s
+
+    kind_new : (new.class ≡ cut.class) × SameMarks cut new
+    kind_new = raise_class (step_of wanted cut.class) highest cut
+
+    shape : new ≡ raise_to (Some w) highest (cut_to (Some w) (lowest_of wanted seats s lower) s)
+    shape =
+        ap (λ (x : Option Step). raise_to x highest cut) (ap (step_of wanted) kind.0 ∙ pairs.0)
+        ∙ ap (λ (x : Option Step). raise_to (Some w) highest (cut_to x (lowest_of wanted seats s lower) s)) pairs.0
+
+    below : top_of (cut_steps wanted seats lower) ≤ max w.limit h
+    below = under wanted seats s lower w ws pairs.1 order (cut_top wanted seats lower ws pairs.1 order.1)
+
+    enough : h ≤ w.limit
+    enough = omega (arith, held_alike seats (s ∷ lower) (w ∷ ws) (alike_of (s ∷ lower) (w ∷ ws) same), room.0)
+
+    limit : new.limit ≡ w.limit
+    limit =
+        ap (λ (x : Step). x.limit) shape ∙ reach_is w h (top_of (cut_steps wanted seats lower)) highest s below within.0 top
+        ∙ max-eq_left enough
+
+    wait : new.wait ≡ w.wait
+    wait = ap (λ (x : Step). x.wait) shape ∙ reach_wait w (lowest_of wanted seats s lower) highest s
+
+    whole : new ≡ w
+    whole =
+        same_step new w (same.0 ∙ sym (kind_new.0 ∙ kind.0))
+        (record { listed = same.1 ∙ sym (kind_new.1.listed ∙ kind.1.listed); closed = same.2 ∙ sym (kind_new.1.closed ∙ kind.1.closed) })
+        limit wait
+
+pub room_is_reached : RoomIsReached
+room_is_reached wanted s leg now right within room same =
+    all_wanted (wanted_on wanted leg) (seats_now s leg) (steps_now s leg) (wanted_on wanted leg) 999
+    (paired (wanted_on wanted leg) (steps_now s leg) (wanted_on wanted leg) (classes_of (steps_now s leg) (wanted_on wanted leg) same) (each_found (wanted_on wanted leg) right.distinct))
+    same right.not_rising within room (top_of_all (wanted_on wanted leg) right.bounded)

@@ -1,7 +1,9 @@
 -- The legs that are asked for, part by part.
-use Rattle.std.proofs.Common.{◌≡◌, ℕ, ◌+◌, ◌<◌, ◌≤◌, Bool, true, false, List, [], ◌∷◌, ◌++◌, length, drop, get_or, arith, if◌then◌else◌, sym, ap, ◌∙◌, append_assoc}
+use Rattle.std.proofs.Common.{◌≡◌, ℕ, ◌+◌, ◌<◌, ◌≤◌, Bool, true, false, List, [], ◌∷◌, ◌++◌, length, drop, get_or, Option, Some, None, inl, inr, arith, if◌then◌else◌, sym, ap, ◌∙◌, append_assoc}
 use Rattle.std.proofs.Math.ListN.{drop_of_length-le}
+use Rattle.std.specs.Prelude.{◌⊎◌, slice_get}
 use Rattle.std.proofs.lemmas.List.{append-nil}
+use Rattle.std.proofs.lemmas.Option.{slice_get_cases}
 use Rattle.ssim_flights.proofs.Walks.{drop_step}
 use Rattle.ssim_flights.specs.declared.flight.DatedLeg.{DatedLeg}
 use Rattle.ssim_flights.specs.declared.flight.Flight.{Flight as Flown}
@@ -28,6 +30,18 @@ module _ {A B : Type 0} where
   parts_whole part k i count xs all whole so_far counted over =
       let past : length xs ≤ i = omega (arith, counted, over) in
       sym (append-nil all) ∙ ap (λ (l : List A). all ++ each_from part k l) (sym (drop_of_length-le xs past)) ∙ so_far
+
+  -- the same where a part is its number's
+  pub number_more : (part : ℕ → A → List B) (rule : ℕ → List B) (k next i : ℕ) (xs : List A) (mid new whole : List B)
+      → ((n : ℕ) (x : A) → part n x ≡ rule n) → mid ++ each_from part k (drop i xs) ≡ whole → i < length xs
+      → new ≡ mid ++ rule k → next ≡ k + 1 → new ++ each_from part next (drop (i + 1) xs) ≡ whole
+  number_more part rule k next i xs mid new whole same so_far inside put is_next = by (slice_get_cases xs i).1 where
+    by : ((x : A) × (i < length xs) × (slice_get xs i ≡ Some x) × (get_or xs i x ≡ x)) ⊎ ((length xs ≤ i) × (slice_get xs i ≡ None))
+        → new ++ each_from part next (drop (i + 1) xs) ≡ whole
+    by (inl h) =
+        part_more part k next i xs h.0 mid new whole so_far inside (sym h.3)
+        (put ∙ ap (λ (l : List B). mid ++ l) (sym (same k h.0))) is_next
+    by (inr h) = absurd (omega (arith, inside, h.0))
 
 -- ---- a flight
 

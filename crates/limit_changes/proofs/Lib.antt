@@ -1,13 +1,13 @@
-mod Keeping
-mod Ranks
+pub mod Keeping
+pub mod Ranks
 mod Ranking
 mod Listing
-mod Written
+pub mod Written
 mod Answering
 mod Quiet
-mod Walking
-mod Apart
-mod Arriving
-mod Falling
-mod Held
+pub mod Walking
+pub mod Apart
+pub mod Arriving
+pub mod Falling
+pub mod Held
 mod Lawful

@@ -11,7 +11,7 @@ use Rattle.limit_changes.specs.declared.shorts.Short.{Short}
 pub day_put : (n : ℕ) (old new bytes : List ℕ) → IsDateText n bytes → new ≡ old ++ bytes → IsDayPut n old new
 day_put n old new bytes is put = record { part = bytes; is_day = is; written = put }
 
-three : (o a b c : List ℕ) → ((o ++ a) ++ b) ++ c ≡ o ++ (a ++ b ++ c)
+pub three : (o a b c : List ℕ) → ((o ++ a) ++ b) ++ c ≡ o ++ (a ++ b ++ c)
 three o a b c = simp append_assoc
 
 pub name_put : (leg : NamedLeg) (old a b new : List ℕ) → a ≡ old ++ front_text leg → IsDayPut leg.run.day a b → new ≡ b ++ pair_text leg

@@ -94,3 +94,19 @@ abbrev pub ShortIsHeld : Type 0
 ShortIsHeld = (wanted : Ladders) (s : State) (leg : NamedLeg) → IsLegLadder (steps_now s leg) → IsLegLadder (wanted_on wanted leg)
     → IsWithin (steps_now s leg) (seats_now s leg) → SameClasses (steps_now s leg) (wanted_on wanted leg)
     → shorts_of wanted s leg ≡ all_held_over leg (wanted_on wanted leg) (seats_now s leg) (steps_now s leg)
+
+-- ---- limits that are reached word for word
+
+-- the ladders name the same classes in the same order, each with the same marks
+abbrev pub SameRanks : Steps → Steps → Type 0
+SameRanks [] [] = Unit {0}
+SameRanks [] (w ∷ wanted) = ⊥
+SameRanks (s ∷ lower) [] = ⊥
+SameRanks (s ∷ lower) (w ∷ wanted) =
+    (w.class ≡ s.class) × (w.listed ≡ s.listed) × (w.closed ≡ s.closed) × SameRanks lower wanted
+
+-- where the wanted limits name the classes of a leg in their order, with their marks, and have room for what is held, the leg comes to the very wanted ones
+abbrev pub RoomIsReached : Type 0
+RoomIsReached = (wanted : Ladders) (s : State) (leg : NamedLeg) → IsLegLadder (steps_now s leg) → IsLegLadder (wanted_on wanted leg)
+    → IsWithin (steps_now s leg) (seats_now s leg) → IsWithin (wanted_on wanted leg) (seats_now s leg)
+    → SameRanks (steps_now s leg) (wanted_on wanted leg) → reached_on wanted s leg ≡ wanted_on wanted leg

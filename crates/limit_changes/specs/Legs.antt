@@ -59,3 +59,16 @@ kept_legs asked flights = legs_by true flights asked flights
 -- and those that no row names
 abbrev pub unnamed_legs : LegsAsked → List Flown → List NamedLeg
 unnamed_legs asked flights = legs_by false flights asked flights
+
+-- ---- all legs
+
+abbrev pub named_alone : ℕ → Flown → ℕ → DatedLeg → List NamedLeg
+named_alone i flight j leg = named_leg i flight j leg ∷ []
+
+-- those of flight i
+abbrev pub legs_on : ℕ → Flown → List NamedLeg
+legs_on i flight = each_from (named_alone i flight) 0 flight.legs
+
+-- each leg of each flight, whatever its own name finds
+abbrev pub every_leg : List Flown → List NamedLeg
+every_leg flights = each_from legs_on 0 flights

@@ -1,6 +1,6 @@
 //! The laws of the changes, each the contract of a function that does nothing.
 //! It knows the definitions alone.
-ghost use Rattle.limit_changes.specs.Laws.{EachIsAccepted, EachIsReached, NoneShortIsWanted, NothingIsLeft, ShortIsHeld};
+ghost use Rattle.limit_changes.specs.Laws.{EachIsAccepted, EachIsReached, NoneShortIsWanted, NothingIsLeft, RoomIsReached, ShortIsHeld};
 
 /// Behind any journal each change is answered OK, where those ahead of it are made and those who wait are confirmed as they then fit.
 #[tactic(auto, using(crate::proofs::Lawful::each_is_accepted))]
@@ -26,4 +26,10 @@ pub fn nothing_is_left()
 #[tactic(auto, using(crate::proofs::Held::short_is_held))]
 pub fn what_is_held_falls_short()
     ensures { ShortIsHeld }
+{}
+
+/// A leg comes to the very limits that are wanted, where these name its classes in their order, with their marks, and have room for what is held.
+#[tactic(auto, using(crate::proofs::Held::room_is_reached))]
+pub fn room_is_reached()
+    ensures { RoomIsReached }
 {}

@@ -1,7 +1,7 @@
 //! The legs that are asked for, by whether their own names find them.
 //! It knows no limit.
-ghost use Rattle.std.specs.Prelude.{◌≡◌, ◌++◌, ◌≤◌, IfOk, OnOk, length};
-ghost use Rattle.limit_changes.specs.Legs.{each_from, is_chosen, is_kept, is_named, is_so, kept_leg, kept_on, legs_by, named_leg};
+ghost use Rattle.std.specs.Prelude.{◌≡◌, ◌++◌, ◌∷◌, ◌≤◌, [], IfOk, OnOk, length};
+ghost use Rattle.limit_changes.specs.Legs.{each_from, every_leg, is_chosen, is_kept, is_named, is_so, kept_leg, kept_on, legs_by, legs_on, named_leg};
 
 use airline_base::Day;
 use seat_lists::{Designator, keeps_flight};
@@ -46,6 +46,29 @@ pub fn legs_by(
         add_flight(&mut all, served, asked, named, index, flights.flight(index))?;
     }
     Ok(all)
+}
+
+/// Each leg of each flight, by flight and leg, whatever its own name finds. A fault is want of memory.
+pub fn every_leg(alloc: Global, flights: &Flights) -> Result<Vec<NamedLeg>, AllocError>
+    ensures { IfOk result (λ all. all.items ≡ every_leg flights.now) }
+{
+    let mut all = Vec::new(alloc);
+    for index in 0..flights.len() {
+        add_each(&mut all, index, flights.flight(index))?;
+    }
+    Ok(all)
+}
+
+/// Adds each leg of a flight.
+fn add_each(all: &mut Vec<NamedLeg>, index: u32, flight: &Flight) -> Result<(), AllocError>
+    requires few { length flight.now.legs ≤ 8 }
+    ensures { OnOk result (all.new.items ≡ all.old.items ++ legs_on index flight.now) }
+{
+    let legs = flight.legs.as_slice();
+    for j in 0..legs.len() {
+        push_leg(all, named_leg(index, flight, j as u8, &legs[j]))?;
+    }
+    Ok(())
 }
 
 /// Adds those of a flight, if it is asked for.
@@ -104,14 +127,20 @@ fn add_leg(
     if !is_chosen(served, asked, named, index, flight, leg, dated) {
         return Ok(());
     }
+    push_leg(all, named_leg(index, flight, leg, dated))
+}
+
+fn push_leg(all: &mut Vec<NamedLeg>, leg: NamedLeg) -> Result<(), AllocError>
+    ensures { OnOk result (all.new.items ≡ all.old.items ++ leg ∷ []) }
+{
     let _day: Option<Day> = None;
     let _name: Option<Designator> = None;
-    all.push(named_leg(index, flight, leg, dated))?;
+    all.push(leg)?;
     Ok(())
 }
 
-/// A leg with its name.
-fn named_leg(index: u32, flight: &Flight, leg: u8, dated: &DatedLeg) -> NamedLeg
+/// A leg of the flight of this index, with its name.
+pub fn named_leg(index: u32, flight: &Flight, leg: u8, dated: &DatedLeg) -> NamedLeg
     ensures { result ≡ named_leg index flight.now leg dated.now }
 {
     NamedLeg {

@@ -12,8 +12,10 @@ mod shorts;
 
 pub use changes::ChangesOf;
 pub use laws::{
-    changes_are_accepted, nothing_is_left, wanted_limits_are_reached, what_is_held_falls_short,
+    changes_are_accepted, nothing_is_left, room_is_reached, wanted_limits_are_reached,
+    what_is_held_falls_short,
 };
-pub use legs::{LegsAsked, NamedLeg, legs_by};
+pub use legs::{LegsAsked, NamedLeg, every_leg, legs_by, named_leg};
+pub use lines::put_name;
 pub use rows::{Row, changes_of};
 pub use shorts::{Short, shorts_of, unnamed_of};

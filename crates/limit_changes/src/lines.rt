@@ -72,9 +72,9 @@ fn put_unnamed_one(text: &mut Vec<u8>, short: &Short) -> Result<(), AllocError>
     put_unnamed_rest(text, short)
 }
 
-/// Adds the flight, the day and the city pair of a leg.
+/// Adds the flight, the day as DDMMMYY and the city pair of a leg.
 #[tactic(auto, using(crate::proofs::Written::name_put))]
-fn put_name(text: &mut Vec<u8>, leg: &NamedLeg) -> Result<(), AllocError>
+pub fn put_name(text: &mut Vec<u8>, leg: &NamedLeg) -> Result<(), AllocError>
     ensures { OnOk result (IsNamePut leg.now text.old.items text.new.items) }
 {
     put_front(text, leg)?;

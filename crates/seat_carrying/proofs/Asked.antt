@@ -125,7 +125,7 @@ bookings_passing test (o ∷ os) = cases (test o.booking) refl (bookings_passing
   cases true e rest = rw e (ap (λ (l : List Booking). o.booking ∷ l) rest)
   cases false e rest = rw e rest
 
-bookings_turn : (os : List Owned) → bookings_of (owned_in_turn os) ≡ in_turn (bookings_of os)
+pub bookings_turn : (os : List Owned) → bookings_of (owned_in_turn os) ≡ in_turn (bookings_of os)
 bookings_turn os =
     bookings_both (filter (λ (o : Owned). is_held o.booking.status) os) (filter (λ (o : Owned). is_waiting o.booking.status) os)
     ∙ ap (λ (l : List Booking). l ++ bookings_of (filter (λ (o : Owned). is_waiting o.booking.status) os)) (bookings_passing (λ (b : Booking). is_held b.status) os)

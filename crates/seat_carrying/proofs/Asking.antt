@@ -36,7 +36,7 @@ listed_plain : (grid : Ladders) (done : List Booking) (n : ℕ) (locator : List 
     ≡ state_of grid (pass grid [] [] (done ++ booking_with n locator place class seats Waiting ∷ [])).bookings
 listed_plain grid done n locator place class seats none may = rw (none, may) refl
 
-none_found : (p : Booking → Bool) (xs : List Booking) → AllByRecursion (λ x. p x ≡ false) xs → find p xs ≡ None
+pub none_found : (p : Booking → Bool) (xs : List Booking) → AllByRecursion (λ x. p x ≡ false) xs → find p xs ≡ None
 none_found p [] a = refl
 none_found p (x ∷ xs) a = rw a.0 (none_found p xs a.1)
 

@@ -19,7 +19,7 @@ use Rattle.seat_carrying.proofs.Asking.{ask_for}
 held_lower : (seats : ℕ → ℕ) (s : Step) (lower : Steps) → held_from seats lower ≤ held_from seats (s ∷ lower)
 held_lower seats s lower = omega (arith, held_cons seats s lower)
 
-lifted_within : (top : ℕ) (seats waits : ℕ → ℕ) (steps : Steps) → held_from seats steps ≤ top
+pub lifted_within : (top : ℕ) (seats waits : ℕ → ℕ) (steps : Steps) → held_from seats steps ≤ top
     → IsWithin (lifted top seats waits steps) seats
 lifted_within top seats waits [] le = tt
 lifted_within top seats waits (s ∷ lower) le =
@@ -43,7 +43,7 @@ lifted_falls top seats waits [] falls = tt
 lifted_falls top seats waits (s ∷ lower) falls =
     (under top seats waits (held_from seats (s ∷ lower)) lower s.limit falls.0 (held_lower seats s lower), lifted_falls top seats waits lower falls.1)
 
-lifted_waits : (top : ℕ) (seats waits : ℕ → ℕ) (steps : Steps) (class : ℕ) → waits class ≤ 999 → has_class steps class ≡ true
+pub lifted_waits : (top : ℕ) (seats waits : ℕ → ℕ) (steps : Steps) (class : ℕ) → waits class ≤ 999 → has_class steps class ≡ true
     → waits class ≤ wait_of (lifted top seats waits steps) class
 lifted_waits top seats waits [] class few there = absurd cc
 lifted_waits top seats waits (s ∷ lower) class few there = cases (s.class == class) refl (lifted_waits top seats waits lower class few) where

@@ -1,0 +1,11 @@
+pub mod Parted
+pub mod Standing
+pub mod Lifted
+pub mod Grids
+pub mod Files
+pub mod Counted
+pub mod Ranked
+pub mod Behind
+pub mod Roomy
+pub mod Promised
+pub mod Told

@@ -1,0 +1,6 @@
+pub mod ByFlight
+pub mod Legs
+pub mod Wanting
+pub mod Lifting
+pub mod Overs
+pub mod Changes
