@@ -1,0 +1,3 @@
+mod FateTurns
+mod Lining
+mod Summing
