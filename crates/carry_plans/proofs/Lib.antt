@@ -1,0 +1,5 @@
+mod Choices
+mod OldReads
+mod Makes
+mod Outcomes
+mod Parts

@@ -1,0 +1,52 @@
+-- What is made of a journal's bytes, and why nothing is.
+use Rattle.std.proofs.Common.{◌≡◌, ◌≢◌, ℕ, Bool, false, List, refl, sym, subst}
+use Rattle.ssim_flights.specs.declared.flight.Flight.{Flight as Flown}
+use Rattle.seat_limits.specs.Authorised.{authorised_grid}
+use Rattle.seat_limits.specs.declared.limit_row.LimitRow.{LimitRow}
+use Rattle.seat_nesting.specs.Nesting.{Ladders}
+use Rattle.seat_rules.specs.Inventory.{Inventory}
+use Rattle.seat_desk.specs.AuditDesk.{IsReplayOf, IsUnlawful}
+use Rattle.seat_desk.specs.Loading.{IsGridOf}
+use Rattle.seat_desk.specs.declared.fault.DeskFault.{DeskFault}
+use Rattle.seat_desk.specs.declared.fault.DeskFault.TheVariants as desk
+use Rattle.seat_seal.specs.declared.beside.Basis.{Basis}
+use Rattle.seat_seal.specs.declared.seal.Sealed.{Sealed as Belonging}
+use Rattle.carry_limits.proofs.Files.{authorised_has_legs}
+use Rattle.carry_limits.specs.Legs.{HasLegsOf}
+use Rattle.carry_plans.specs.Carries.{IsMadeOf, IsPut, IsUnmade, IsUnmadeOf}
+use Rattle.carry_plans.specs.Plans.{IsPlanned, IsUnplanned}
+use Rattle.carry_plans.specs.declared.asked.CarryAsked.{CarryAsked}
+use Rattle.carry_plans.specs.declared.carriage.Carriage.{Carriage}
+use Rattle.carry_plans.specs.declared.fault.CarryFault.{CarryFault}
+use Rattle.carry_plans.specs.declared.fault.CarryFault.TheVariants.{Season, Unsealed, Over, Full, Memory}
+
+pub has_legs : (rows : List LimitRow) (flights : List Flown) (grid : Ladders) → grid ≡ authorised_grid rows flights → HasLegsOf grid flights
+has_legs rows flights grid is = subst (λ (g : Ladders). HasLegsOf g flights) (sym is) (authorised_has_legs rows flights)
+
+pub grid_before : (olds : List Flown) (grid : Ladders) (bytes : List ℕ) (before : Inventory) → IsGridOf olds grid → IsReplayOf grid bytes before
+    → IsGridOf olds before.grid
+grid_before olds grid bytes before is r = subst (IsGridOf olds) (sym r.grid_is) is
+
+module _ (asked : CarryAsked) (news : List Flown) (file : Ladders) (olds : List Flown) (grid : Ladders) (bytes : List ℕ) where
+  pub of_journal : (f : CarryFault) (fault : DeskFault) → f ≡ Season (record { is_new = false; fault = fault })
+      → (fault ≢ desk.Device) × (fault ≢ desk.TooLarge) → (fault ≢ desk.Memory → IsUnlawful grid fault bytes)
+      → IsUnmade asked news file olds grid bytes f
+  of_journal f fault same kind wrong =
+      subst (IsUnmade asked news file olds grid bytes) (sym same) (record { is_old = refl; kind = kind; unlawful = wrong })
+
+  pub want_of : (f : CarryFault) → f ≡ Memory → IsUnmade asked news file olds grid bytes f
+  want_of f e = subst (IsUnmade asked news file olds grid bytes) (sym e) tt
+
+  pub unmade_of : (f : CarryFault) (before : Inventory) → IsReplayOf grid bytes before → IsUnplanned asked olds before news file f
+      → IsUnmade asked news file olds grid bytes f
+  unmade_of (Over text) before replayed wrong = record { before = before; replayed = replayed; unplanned = wrong }
+  unmade_of Full before replayed wrong = record { before = before; replayed = replayed; unplanned = wrong }
+  unmade_of Memory before replayed wrong = tt
+  unmade_of Unsealed before replayed wrong = absurd wrong
+  unmade_of (Season fault) before replayed wrong = absurd wrong
+
+  pub made_of_it : (basis : Basis) (known : Belonging) (c : Carriage) (before after : Inventory) (report : List ℕ) → IsReplayOf grid bytes before
+      → IsPlanned asked olds before news file after report → IsPut asked.today basis known after report c
+      → IsMadeOf asked news file basis olds grid bytes known c
+  made_of_it basis known c before after report replayed plan put =
+      record { before = before; replayed = replayed; after = after; report = report; planned = plan; put = put }

@@ -1,0 +1,16 @@
+//! What a carry makes.
+use airline_base::Items;
+use seat_seal::Sealed;
+
+/// A new journal and what is said of it, and the report.
+#[derive(Drop)]
+pub struct Carriage {
+    /// The text of the new journal.
+    pub text: Items<u8>,
+    /// What its seal says.
+    pub entry: Sealed,
+    /// A line for each live booking of the older journal, and one of sums.
+    pub report: Items<u8>,
+    /// What the seal of the older journal knows of it.
+    pub known: Sealed,
+}

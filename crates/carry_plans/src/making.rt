@@ -1,0 +1,102 @@
+//! The new journal, its seal's entry and the report, of seasons that were read and a journal's bytes.
+//! It knows no reader.
+ghost use Rattle.std.specs.Prelude.{◌≡◌, ◌≤◌, ◌+◌, min, IfErr, IfOk, length};
+ghost use Rattle.carry_limits.specs.Legs.{HasLegsOf};
+ghost use Rattle.seat_desk.specs.AuditDesk.{most_journal_bytes, most_lines};
+ghost use Rattle.seat_desk.specs.Loading.{IsGridOf};
+ghost use Rattle.seat_seal.specs.Fronts.{front_of};
+ghost use Rattle.seat_seal.specs.Imprints.{imprint_of};
+ghost use Rattle.carry_plans.specs.Carries.{IsMadeOf, IsNextEra, IsPut, IsUnmade, next_epoch};
+
+use crate::asked::CarryAsked;
+use crate::carriage::Carriage;
+use crate::fault::{CarryFault, of_old};
+use crate::planning::{Planned, plan};
+use airline_base::{Day, Items};
+use seat_core::Core;
+use seat_desk::{Based, Loaded, replayed_in_parts};
+use seat_nesting::Grid;
+use seat_seal::{Basis, Date, Era, Runs, Sealed, closed_entry, front_of, imprint_of};
+use seat_sealing::journal_bytes;
+use ssim_flights::Flights;
+use std::alloc::Global;
+use std::thread::Threads;
+
+/// What carries the live bookings of a journal with these bytes over the old season to the new one, if they are a legal history over its limits.
+#[tactic(auto, using(crate::proofs::Makes::grid_before, crate::proofs::Makes::of_journal, crate::proofs::Makes::want_of, crate::proofs::Makes::unmade_of, crate::proofs::Makes::made_of_it))]
+pub(crate) fn made<R: Threads + Sync>(
+    rt: &R,
+    alloc: Global,
+    asked: &CarryAsked,
+    new: &Based,
+    olds: &Flights,
+    grid: Grid,
+    bytes: Vec<u8>,
+    known: Sealed,
+) -> Result<Carriage, CarryFault>
+    requires size { length bytes.items ≤ most_journal_bytes }
+    requires grid { IsGridOf olds.now grid }
+    requires file { HasLegsOf new.now.loaded.grid new.now.loaded.flights }
+    ensures imprint { IfOk result (λ c. c.entry.journal.imprint ≡ imprint_of (front_of c.text)) }
+    ensures made { IfOk result (IsMadeOf asked.now new.now.loaded.flights new.now.loaded.grid new.now.basis olds.now grid bytes.items known) }
+    ensures fault { IfErr result (IsUnmade asked.now new.now.loaded.flights new.now.loaded.grid olds.now grid bytes.items) }
+{
+    let before = match replayed_in_parts(rt, alloc, grid, bytes) {
+        Ok(before) => before,
+        Err(fault) => return Err(of_old(fault)),
+    };
+    let planned = match plan(
+        alloc,
+        asked,
+        olds,
+        &before,
+        &new.loaded.flights,
+        &new.loaded.grid,
+    ) {
+        Ok(planned) => planned,
+        Err(fault) => return Err(fault),
+    };
+    drop(before);
+    match put(alloc, asked.today, &new.basis, planned, known) {
+        Ok(carriage) => Ok(carriage),
+        Err(fault) => Err(fault),
+    }
+}
+
+/// The text of the new inventory's journal, and what its seal says.
+fn put(
+    alloc: Global,
+    today: Day,
+    basis: &Basis,
+    planned: Planned,
+    known: Sealed,
+) -> Result<Carriage, CarryFault>
+    ensures imprint { IfOk result (λ c. c.entry.journal.imprint ≡ imprint_of (front_of c.text)) }
+    ensures put { IfOk result (IsPut today basis.now known planned.after planned.report) }
+    ensures memory { IfErr result (λ f. f ≡ CarryFault.Memory) }
+{
+    let Planned { after, report } = planned;
+    let lines = after.journal().len() as u32;
+    let Ok(text) = journal_bytes(alloc, after.journal()) else {
+        return Err(CarryFault::Memory);
+    };
+    let imprint = imprint_of(front_of(&text));
+    let era = next_era(&known.era, today);
+    Ok(Carriage {
+        text: Items::from_vec(text),
+        entry: closed_entry(basis, era, imprint, lines, Runs::new()),
+        report,
+        known,
+    })
+}
+
+/// The era behind this one, which begins on a day.
+fn next_era(era: &Era, today: Day) -> Era
+    ensures { IsNextEra era.now today result }
+{
+    Era {
+        epoch: era.epoch.saturating_add(1),
+        today: Some(Date::of(today)),
+        carried: None,
+    }
+}

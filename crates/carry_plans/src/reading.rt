@@ -1,0 +1,130 @@
+//! `carry`: two seasons and a journal over the old one, read in order, and what is made of them.
+//! It knows which fault stands ahead of which, and nothing of where bookings go.
+ghost use Rattle.std.specs.Prelude.{◌≡◌, ◌≤◌, IfErr, IfOk, length};
+ghost use Rattle.ssim_flights.specs.Right.{IsOfCentury};
+ghost use Rattle.carry_limits.specs.Legs.{HasLegsOf};
+ghost use Rattle.seat_desk.specs.AuditDesk.{most_journal_bytes};
+ghost use Rattle.seat_desk.specs.Loading.{IsGridOf};
+ghost use Rattle.seat_seal.specs.Fronts.{front_of};
+ghost use Rattle.seat_seal.specs.Imprints.{imprint_of};
+ghost use Rattle.carry_plans.specs.Carries.{IsCarryOf, IsFrom, IsMadeOf, IsOldRead, IsUncarried, IsUnmade, IsUnread};
+
+use crate::asked::CarryAsked;
+use crate::carriage::Carriage;
+use crate::fault::{CarryFault, of_new, of_old};
+use crate::making::made;
+use airline_base::NotedRead;
+use seat_desk::{
+    Based, DeskFault, Inputs, Loaded, MOST_JOURNAL_BYTES, agreed, load_based, read_input,
+};
+use seat_seal::{Beside, Sealed, known_of};
+use std::alloc::Global;
+use std::thread::Threads;
+
+/// What carries the live bookings of a journal over the old season to the new one. The new season is read and checked first, then the old one, and
+/// last the journal with what stands beside it, by which more must be known of it than its bytes. The first days are in 2000 to 2099, and each
+/// season has 1 to 366.
+#[tactic(auto, using(crate::proofs::Makes::has_legs, crate::proofs::Outcomes::carried_onto, crate::proofs::Outcomes::refused_new, crate::proofs::Outcomes::refused_old, crate::proofs::Outcomes::refused_made))]
+pub fn desk_carry<R: Threads + Sync, S: NotedRead, L: NotedRead, J: NotedRead>(
+    rt: &R,
+    alloc: Global,
+    asked: &CarryAsked,
+    from: &mut Inputs<S, L>,
+    to: &mut Inputs<S, L>,
+    journal: &mut J,
+    beside: &Beside<'_>,
+) -> Result<Carriage, CarryFault>
+    requires from_first { IsOfCentury from.old.first }
+    requires from_days { (1 ≤ from.old.days) × (from.old.days ≤ 366) }
+    requires to_first { IsOfCentury to.old.first }
+    requires to_days { (1 ≤ to.old.days) × (to.old.days ≤ 366) }
+    ensures imprint { IfOk result (λ c. c.entry.journal.imprint ≡ imprint_of (front_of c.text)) }
+    ensures ok { IfOk result (IsCarryOf S.remaining L.remaining from.old to.old (J.remaining journal.old) beside.now asked.now) }
+    ensures fault { IfErr result (IsUncarried S.remaining L.remaining from.old to.old (J.remaining journal.old) beside.now asked.now) }
+{
+    let new = match load_based(alloc, to, true) {
+        Ok(new) => new,
+        Err(fault) => return Err(of_new(fault)),
+    };
+    let old = match old_read(alloc, from, journal, beside) {
+        Ok(old) => old,
+        Err(fault) => return Err(fault),
+    };
+    match made_of(rt, alloc, asked, &new, old) {
+        Ok(carriage) => Ok(carriage),
+        Err(fault) => Err(fault),
+    }
+}
+
+/// The old season, and the journal over it with what its seal knows.
+#[derive(Drop)]
+struct OldRead {
+    loaded: Loaded,
+    bytes: Vec<u8>,
+    known: Sealed,
+}
+
+/// Reads the old season, and a journal that agrees with what stands beside it.
+#[tactic(auto, using(crate::proofs::OldReads::read_of, crate::proofs::OldReads::refused_load, crate::proofs::OldReads::refused_size, crate::proofs::OldReads::refused_seal, crate::proofs::OldReads::unknown_of))]
+fn old_read<S: NotedRead, L: NotedRead, J: NotedRead>(
+    alloc: Global,
+    from: &mut Inputs<S, L>,
+    journal: &mut J,
+    beside: &Beside<'_>,
+) -> Result<OldRead, CarryFault>
+    requires first { IsOfCentury from.old.first }
+    requires days { (1 ≤ from.old.days) × (from.old.days ≤ 366) }
+    ensures read { IfOk result (λ r. IsFrom S.remaining L.remaining from.old (J.remaining journal.old) beside.now (IsOldRead beside.now r)) }
+    ensures grid { IfOk result (λ r. IsGridOf r.loaded.flights r.loaded.grid) }
+    ensures size { IfOk result (λ r. length r.bytes.items ≤ most_journal_bytes) }
+    ensures fault { IfErr result (IsUnread S.remaining L.remaining from.old (J.remaining journal.old) beside.now) }
+{
+    let old = match load_based(alloc, from, true) {
+        Ok(old) => old,
+        Err(fault) => return Err(of_old(fault)),
+    };
+    let bytes = match read_input(alloc, journal, MOST_JOURNAL_BYTES) {
+        Ok(bytes) => bytes,
+        Err(fault) => return Err(of_old(fault)),
+    };
+    if let Err(fault) = agreed(beside, &old.basis, &bytes) {
+        return Err(of_old(fault));
+    }
+    match known_of(beside, &bytes) {
+        Some(known) => Ok(OldRead {
+            loaded: old.loaded,
+            bytes,
+            known,
+        }),
+        None => Err(CarryFault::Unsealed),
+    }
+}
+
+/// What carries the live bookings of the journal that was read.
+fn made_of<R: Threads + Sync>(
+    rt: &R,
+    alloc: Global,
+    asked: &CarryAsked,
+    new: &Based,
+    old: OldRead,
+) -> Result<Carriage, CarryFault>
+    requires size { length old.bytes.items ≤ most_journal_bytes }
+    requires grid { IsGridOf old.loaded.flights old.loaded.grid }
+    requires file { HasLegsOf new.now.loaded.grid new.now.loaded.flights }
+    ensures imprint { IfOk result (λ c. c.entry.journal.imprint ≡ imprint_of (front_of c.text)) }
+    ensures made { IfOk result (IsMadeOf asked.now new.now.loaded.flights new.now.loaded.grid new.now.basis old.loaded.flights old.loaded.grid old.bytes.items old.known) }
+    ensures fault { IfErr result (IsUnmade asked.now new.now.loaded.flights new.now.loaded.grid old.loaded.flights old.loaded.grid old.bytes.items) }
+{
+    let OldRead {
+        loaded,
+        bytes,
+        known,
+    } = old;
+    let Loaded {
+        flights,
+        rows,
+        grid,
+    } = loaded;
+    drop(rows);
+    made(rt, alloc, asked, new, &flights, grid, bytes, known)
+}
