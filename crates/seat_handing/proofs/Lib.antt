@@ -1,0 +1,4 @@
+pub mod Known
+pub mod Marks
+pub mod Ordered
+pub mod Puts
