@@ -1,0 +1,4 @@
+pub mod Laws
+pub mod RowRoutes
+pub mod ScriptRoutes
+pub mod Shards
