@@ -15,7 +15,7 @@ _seatdesk() {
     esac
     for ((i = 1; i < COMP_CWORD; i++)); do
         case ${COMP_WORDS[i]} in
-        ladder | check | flights | cover | rooms | loads | run | serve | bookings | waiting | pickup | history | avs | reconcile | compare | changes | audit | seal | recover | replies | told | why | explain | season | help)
+        ladder | check | flights | cover | rooms | loads | run | serve | route | bookings | waiting | pickup | history | avs | reconcile | compare | carry | changes | audit | seal | recover | replies | told | why | explain | season | help)
             command=${COMP_WORDS[i]}
             break
             ;;
@@ -23,7 +23,7 @@ _seatdesk() {
     done
     case $command in
     '')
-        words='ladder check flights cover rooms loads run serve bookings waiting pickup history avs reconcile compare changes audit seal recover replies told why explain season help -v --verbose --quiet -h --help -V --version'
+        words='ladder check flights cover rooms loads run serve route bookings waiting pickup history avs reconcile compare carry changes audit seal recover replies told why explain season help -v --verbose --quiet -h --help -V --version'
         files=''
         values=''
         place=''
@@ -76,6 +76,12 @@ _seatdesk() {
         values='--first --days --today --desk --manager --every --feed --behind'
         place=''
         ;;
+    route)
+        words='--shards --changes -v --verbose --quiet -h --help'
+        files='--changes'
+        values='--shards'
+        place='files'
+        ;;
     bookings)
         words='--set --limits --first --days --season --locator --flight --day --csv --json --open -v --verbose --quiet -h --help'
         files='--set --limits --season'
@@ -116,6 +122,12 @@ _seatdesk() {
         words='--from --to -v --verbose --quiet -h --help'
         files='--from --to'
         values=''
+        place='files'
+        ;;
+    carry)
+        words='--from --to --today --journal --displace --fresh-limits --anew --dry-run -v --verbose --quiet -h --help'
+        files='--from --to --journal'
+        values='--today'
         place='files'
         ;;
     changes)
@@ -161,9 +173,10 @@ _seatdesk() {
         place='files'
         ;;
     explain)
-        words='A1 A2 A3 A4 A5 A6 A7 A8 A9 B1 C1 DEVICE E1 E2 F1 F2 F3 F4 F5 F6 F7 F8 F9 FEED H1 H2 H3 H4 H5 H6 J1 J2 J3 J4 L1 L2 L3 L4 M1 M2 M3 M4 M5 M6 M7 MEMORY P1 P2 P3 P4 P5 P6 P7 P8 P9 Q1 Q2 Q3 R2 S1 S2 S3 S4 S5 S6 S7 S8 S9 S10 S11 S12 S13 S14 S15 SEAL SEASON T1 T2 T3 T4 U1 V1 V2 V3 W1 -v --verbose --quiet -h --help'
+        words='A1 A2 A3 A4 A5 A6 A7 A8 A9 B1 C1 CARRY DEVICE E1 E2 F1 F2 F3 F4 F5 F6 F7 F8 F9 FEED H1 H2 H3 H4 H5 H6 J1 J2 J3 J4 L1 L2 L3 L4 M1 M2 M3 M4 M5 M6 M7 MEMORY P1 P2 P3 P4 P5 P6 P7 P8 P9 Q1 Q2 Q3 R2 S1 S2 S3 S4 S5 S6 S7 S8 S9 S10 S11 S12 S13 S14 S15 SEAL SEASON T1 T2 T3 T4 U1 V1 V2 V3 W1 -v --verbose --quiet -h --help'
         [ "$before" != E2 ] || words='behind by day days desk first flight form html journal line locator pair refused script session shards status today words'
-        [ "$before" != SEAL ] || words='again behind days first form journal limits none runs set'
+        [ "$before" != SEAL ] || words='again behind carried days first form journal limits none runs set'
+        [ "$before" != CARRY ] || words='new unfinished'
         [ "$before" != SEASON ] || words='form key missing value'
         files=''
         values=''
@@ -176,7 +189,7 @@ _seatdesk() {
         place='files'
         ;;
     help)
-        words='ladder check flights cover rooms loads run serve bookings waiting pickup history avs reconcile compare changes audit seal recover replies told why explain season'
+        words='ladder check flights cover rooms loads run serve route bookings waiting pickup history avs reconcile compare carry changes audit seal recover replies told why explain season'
         files=''
         values=''
         place=''

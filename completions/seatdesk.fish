@@ -13,6 +13,7 @@ complete -c seatdesk -n __fish_use_subcommand -a rooms -d 'Writes the seats that
 complete -c seatdesk -n __fish_use_subcommand -a loads -d 'Writes how full each dated leg is, by class, and what all of them come to'
 complete -c seatdesk -n __fish_use_subcommand -a run -d 'Books the requests of scripts, one session on a thread for each script, and writes the replies'
 complete -c seatdesk -n __fish_use_subcommand -a serve -d 'Stays open for desks: answers each line of a message once it is on the disk'
+complete -c seatdesk -n __fish_use_subcommand -a route -d 'Says which shard each line of scripts goes to, where the flights are divided among several hosts'
 complete -c seatdesk -n __fish_use_subcommand -a bookings -d 'Writes live bookings, of locators or of a flight, in the codes of AIRIMP'
 complete -c seatdesk -n __fish_use_subcommand -a waiting -d 'Writes who waits, in the order in which they would be confirmed, and the seats that they lack'
 complete -c seatdesk -n __fish_use_subcommand -a pickup -d 'Writes what was held, sold, cancelled and confirmed behind a line of a journal, by flight and class'
@@ -20,6 +21,7 @@ complete -c seatdesk -n __fish_use_subcommand -a history -d 'Writes what the lin
 complete -c seatdesk -n __fish_use_subcommand -a avs -d 'Writes what partners are to show as available: the status of each segment and class'
 complete -c seatdesk -n __fish_use_subcommand -a reconcile -d 'Writes where the list of a partner or a desk differs from the bookings of a journal'
 complete -c seatdesk -n __fish_use_subcommand -a compare -d 'Writes what another season changes: flights added and gone, and other legs and limits'
+complete -c seatdesk -n __fish_use_subcommand -a carry -d 'Carries the live bookings of a journal to another season, into a new journal, and reports on each of them'
 complete -c seatdesk -n __fish_use_subcommand -a changes -d 'Writes the changes that bring the limits after a journal to those that are wanted'
 complete -c seatdesk -n __fish_use_subcommand -a audit -d 'Replays a journal against its schedule and limits, and writes one summary line'
 complete -c seatdesk -n __fish_use_subcommand -a seal -d 'Writes the seal of a journal that audit accepts, which says what the journal belongs to'
@@ -105,7 +107,7 @@ complete -c seatdesk -n '__fish_seen_subcommand_from run' -l behind -x -d 'How m
 complete -c seatdesk -n '__fish_seen_subcommand_from run' -l resume -r -F -d 'The journal that has what the scripts begin with (a file); what they ask beyond it is booked behind its lines'
 complete -c seatdesk -n '__fish_seen_subcommand_from run' -l today -x -d 'The day of the run, as 2024-06-01, from 2000 to 2099; it gives the requests their year'
 complete -c seatdesk -n '__fish_seen_subcommand_from run' -l journal -r -F -d 'The file that the journal is written to, which may be no input but the journal of --after or --resume'
-complete -c seatdesk -n '__fish_seen_subcommand_from run' -l changes -r -F -d 'Changes of the limits, made beside the sessions (a file); without it no limit changes'
+complete -c seatdesk -n '__fish_seen_subcommand_from run' -l changes -r -F -d 'Changes of limits, and classes to be closed and opened, by rows AU, CLOSE and OPEN, made beside the sessions (a file); without it no limit changes and no class is closed'
 complete -c seatdesk -n '__fish_seen_subcommand_from run' -l refused -r -F -d 'Passes over each wrong line of the scripts and lists it in this file, by its code, session and line; without it a wrong line refuses the run'
 complete -c seatdesk -n '__fish_seen_subcommand_from run' -l no-clobber -d 'Refuses an OUT that is there and is not empty'
 complete -c seatdesk -n '__fish_seen_subcommand_from run' -l again -d 'Books scripts once more that a run of the journal has booked, as its seal says'
@@ -122,7 +124,7 @@ complete -c seatdesk -n '__fish_seen_subcommand_from serve' -l season -r -F -d '
 complete -c seatdesk -n '__fish_seen_subcommand_from serve' -l today -x -d 'The day of the host, as 2024-06-01, from 2000 to 2099, never earlier than before; it gives the requests their year, and may be left out beside a seal that has one'
 complete -c seatdesk -n '__fish_seen_subcommand_from serve' -l journal -r -F -d 'The journal to go on from (a file, which is locked); it is made where it is not there'
 complete -c seatdesk -n '__fish_seen_subcommand_from serve' -l desk -x -d 'Where a desk is: N=IN:OUT, its session and its two pipes, up to eight times, or - alone, for standard input and standard output as session 1'
-complete -c seatdesk -n '__fish_seen_subcommand_from serve' -l manager -x -d 'The two pipes of the manager, as IN:OUT, whom desks on pipes need'
+complete -c seatdesk -n '__fish_seen_subcommand_from serve' -l manager -x -d 'The two pipes of the manager, as IN:OUT, whom desks on pipes need; its lines change limits, and close and open classes'
 complete -c seatdesk -n '__fish_seen_subcommand_from serve' -l status -r -F -d 'The file that says how a host of desks on pipes, or of a feed, is doing: lines, groups, desks, seats sold. It is rewritten whole'
 complete -c seatdesk -n '__fish_seen_subcommand_from serve' -l every -x -d 'How often that is said, 1 to 3600 seconds; 60 where nothing is said'
 complete -c seatdesk -n '__fish_seen_subcommand_from serve' -l feed -x -d 'Where one stream of lines for all desks comes from, in place of them: -, for standard input; it has its days in it, and what is told of it goes to standard output'
@@ -131,6 +133,13 @@ complete -c seatdesk -n '__fish_seen_subcommand_from serve' -l close-departed -d
 complete -c seatdesk -n '__fish_seen_subcommand_from serve' -s v -l verbose -d 'Names the file of a fault, and where in it the fault stands, or the system\'s reason'
 complete -c seatdesk -n '__fish_seen_subcommand_from serve' -l quiet -d 'Never says on a terminal how far a long command is'
 complete -c seatdesk -n '__fish_seen_subcommand_from serve' -s h -l help -d 'Print help'
+
+complete -c seatdesk -n '__fish_seen_subcommand_from route' -l shards -x -d 'How many shards there are, 1 to 999'
+complete -c seatdesk -n '__fish_seen_subcommand_from route' -l changes -r -F -d 'Changes of limits, and classes to be closed and opened, by rows AU, CLOSE and OPEN, as run has them (a file); their shards stand ahead of those of the scripts'
+complete -c seatdesk -n '__fish_seen_subcommand_from route' -s v -l verbose -d 'Names the file of a fault, and where in it the fault stands, or the system\'s reason'
+complete -c seatdesk -n '__fish_seen_subcommand_from route' -l quiet -d 'Never says on a terminal how far a long command is'
+complete -c seatdesk -n '__fish_seen_subcommand_from route' -s h -l help -d 'Print help'
+complete -c seatdesk -n '__fish_seen_subcommand_from route' -F
 
 complete -c seatdesk -n '__fish_seen_subcommand_from bookings' -l set -r -F -d 'The data set of the schedule (SSIM chapter 7, a file)'
 complete -c seatdesk -n '__fish_seen_subcommand_from bookings' -l limits -r -F -d 'The booking limits of the legs, in seats from 0 to 999 (a file)'
@@ -232,6 +241,19 @@ complete -c seatdesk -n '__fish_seen_subcommand_from compare' -l quiet -d 'Never
 complete -c seatdesk -n '__fish_seen_subcommand_from compare' -s h -l help -d 'Print help'
 complete -c seatdesk -n '__fish_seen_subcommand_from compare' -F
 
+complete -c seatdesk -n '__fish_seen_subcommand_from carry' -l from -r -F -d 'The season that holds (a season file)'
+complete -c seatdesk -n '__fish_seen_subcommand_from carry' -l to -r -F -d 'The season that is to come in its place (a season file)'
+complete -c seatdesk -n '__fish_seen_subcommand_from carry' -l today -x -d 'The day of the carry, as 2024-06-01, from 2000 to 2099; a booking that departed before it is not carried'
+complete -c seatdesk -n '__fish_seen_subcommand_from carry' -l journal -r -F -d 'The journal of the season of --to, which is made (a file); it may not be JOURNAL'
+complete -c seatdesk -n '__fish_seen_subcommand_from carry' -l displace -d 'Where a leg has too few seats the bookings of the highest numbers lose theirs, and wait where they may; without it no file is written then'
+complete -c seatdesk -n '__fish_seen_subcommand_from carry' -l fresh-limits -d 'The limits are those of the season of --to, without what changes and closings of JOURNAL set'
+complete -c seatdesk -n '__fish_seen_subcommand_from carry' -l anew -d 'Takes the place of a carry of JOURNAL that did not end, and had another result'
+complete -c seatdesk -n '__fish_seen_subcommand_from carry' -l dry-run -d 'Writes the report alone: neither NEW nor the seal of JOURNAL'
+complete -c seatdesk -n '__fish_seen_subcommand_from carry' -s v -l verbose -d 'Names the file of a fault, and where in it the fault stands, or the system\'s reason'
+complete -c seatdesk -n '__fish_seen_subcommand_from carry' -l quiet -d 'Never says on a terminal how far a long command is'
+complete -c seatdesk -n '__fish_seen_subcommand_from carry' -s h -l help -d 'Print help'
+complete -c seatdesk -n '__fish_seen_subcommand_from carry' -F
+
 complete -c seatdesk -n '__fish_seen_subcommand_from changes' -l set -r -F -d 'The data set of the schedule (SSIM chapter 7, a file)'
 complete -c seatdesk -n '__fish_seen_subcommand_from changes' -l limits -r -F -d 'The booking limits of the legs, in seats from 0 to 999 (a file)'
 complete -c seatdesk -n '__fish_seen_subcommand_from changes' -l first -x -d 'The first day of departure, as 2024-06-01, from 2000 to 2099'
@@ -331,11 +353,11 @@ complete -c seatdesk -n '__fish_seen_subcommand_from why' -F
 complete -c seatdesk -n '__fish_seen_subcommand_from explain' -s v -l verbose -d 'Names the file of a fault, and where in it the fault stands, or the system\'s reason'
 complete -c seatdesk -n '__fish_seen_subcommand_from explain' -l quiet -d 'Never says on a terminal how far a long command is'
 complete -c seatdesk -n '__fish_seen_subcommand_from explain' -s h -l help -d 'Print help'
-complete -c seatdesk -n '__fish_seen_subcommand_from explain' -a 'A1 A2 A3 A4 A5 A6 A7 A8 A9 B1 C1 DEVICE E1 E2 F1 F2 F3 F4 F5 F6 F7 F8 F9 FEED H1 H2 H3 H4 H5 H6 J1 J2 J3 J4 L1 L2 L3 L4 M1 M2 M3 M4 M5 M6 M7 MEMORY P1 P2 P3 P4 P5 P6 P7 P8 P9 Q1 Q2 Q3 R2 S1 S2 S3 S4 S5 S6 S7 S8 S9 S10 S11 S12 S13 S14 S15 SEAL SEASON T1 T2 T3 T4 U1 V1 V2 V3 W1'
+complete -c seatdesk -n '__fish_seen_subcommand_from explain' -a 'A1 A2 A3 A4 A5 A6 A7 A8 A9 B1 C1 CARRY DEVICE E1 E2 F1 F2 F3 F4 F5 F6 F7 F8 F9 FEED H1 H2 H3 H4 H5 H6 J1 J2 J3 J4 L1 L2 L3 L4 M1 M2 M3 M4 M5 M6 M7 MEMORY P1 P2 P3 P4 P5 P6 P7 P8 P9 Q1 Q2 Q3 R2 S1 S2 S3 S4 S5 S6 S7 S8 S9 S10 S11 S12 S13 S14 S15 SEAL SEASON T1 T2 T3 T4 U1 V1 V2 V3 W1'
 
 complete -c seatdesk -n '__fish_seen_subcommand_from season' -s v -l verbose -d 'Names the file of a fault, and where in it the fault stands, or the system\'s reason'
 complete -c seatdesk -n '__fish_seen_subcommand_from season' -l quiet -d 'Never says on a terminal how far a long command is'
 complete -c seatdesk -n '__fish_seen_subcommand_from season' -s h -l help -d 'Print help'
 complete -c seatdesk -n '__fish_seen_subcommand_from season' -F
 
-complete -c seatdesk -n '__fish_seen_subcommand_from help' -a 'ladder check flights cover rooms loads run serve bookings waiting pickup history avs reconcile compare changes audit seal recover replies told why explain season'
+complete -c seatdesk -n '__fish_seen_subcommand_from help' -a 'ladder check flights cover rooms loads run serve route bookings waiting pickup history avs reconcile compare carry changes audit seal recover replies told why explain season'

@@ -22,6 +22,7 @@ pub fn answer_row(word: &str) -> Option<&'static Explanation>
         .or(first_named(partners(), word))
         .or(first_named(changes(), word))
         .or(first_named(wanted(), word))
+        .or(first_named(carried(), word))
 }
 
 fn first_named<'a>(rows: &'a [Explanation], word: &str) -> Option<&'a Explanation>
@@ -68,6 +69,10 @@ fn partners() -> &'static [Explanation] {
 
 fn wanted() -> &'static [Explanation] {
     WANTED
+}
+
+fn carried() -> &'static [Explanation] {
+    CARRIED
 }
 
 fn changes() -> &'static [Explanation] {
@@ -258,7 +263,7 @@ const DESKS: &[Explanation] = &[
         behind: "",
         code: "FAULT",
         numbers: NONE,
-        text: "A line of the desk is refused, and nothing was booked for it, but where - stands behind FAULT: then the journal's file failed (- DEVICE), or\nanswers were left out (- LOST), and lines may be booked; ?AGAIN tells. Else there stands behind it the code, which seatdesk explain takes by itself, and the number of the line,\nor @ and that of the call that the line had.",
+        text: "A line of the desk is refused, and nothing was booked for it, but where - stands behind FAULT: then the journal's file failed (- DEVICE), or\nanswers were left out (- LOST), and lines may be booked, of which ?AGAIN tells; or not all that departed is closed (- UNCLOSED).\nElse there stands behind it the code, which seatdesk explain takes by itself, and the number of the line,\nor @ and that of the call that the line had.",
     },
     Explanation {
         behind: "",
@@ -407,6 +412,34 @@ const WANTED: &[Explanation] = &[
         code: "UNNAMED",
         numbers: NONE,
         text: "Of changes: no row of changes is for this leg, since its flight, day and pair find another leg, or two of them. Its limit stays as the limits file has it:\nchange it there, or have the schedule number the flight's legs apart.",
+    },
+];
+
+// What carry says of a booking and of a leg, beside the codes of a reply.
+const CARRIED: &[Explanation] = &[
+    Explanation {
+        behind: "",
+        code: "TK",
+        numbers: NONE,
+        text: "Holds confirmed, and the schedule was changed. Of carry: the seats of the booking are held, and its legs have other stations or local days\nin the new season. The passenger is to be told.",
+    },
+    Explanation {
+        behind: "",
+        code: "TL",
+        numbers: NONE,
+        text: "Has listed, and the schedule was changed. Of carry: the seats of the booking wait, and its legs have other stations or local days in the new season.\nWhere they were held the old segment has HK.",
+    },
+    Explanation {
+        behind: "",
+        code: "DEPARTED",
+        numbers: NONE,
+        text: "Of carry: the booking departed before the day of --today, and is not carried.",
+    },
+    Explanation {
+        behind: "",
+        code: "OVER",
+        numbers: NONE,
+        text: "Of carry: on this leg of the new season more seats are held than it has. held: the seats, of: the highest limit. Nothing was written:\nlet the season of --to have the limits, or say --displace, by which the bookings of the highest numbers lose their seats.",
     },
 ];
 

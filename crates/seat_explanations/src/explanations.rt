@@ -3,6 +3,7 @@
 ghost use Rattle.std.specs.Prelude.{◌⊎◌, IfSome, IsTrue, codes};
 ghost use Rattle.seat_explanations.specs.Rows.{is_of};
 
+use crate::carries::CARRIES;
 use crate::journals::{ENTRIES, JOURNALS};
 use crate::limits::{LADDERS, LIMITS};
 use crate::notes::{NOTES, REASONS};
@@ -39,6 +40,7 @@ pub fn row_behind(behind: &str, code: &str) -> Option<&'static Explanation>
         .or(first_behind(journals(), behind, code))
         .or(first_behind(entries(), behind, code))
         .or(first_behind(seals(), behind, code))
+        .or(first_behind(carries(), behind, code))
         .or(first_behind(words(), behind, code))
         .or(first_behind(seasons(), behind, code))
 }
@@ -68,6 +70,7 @@ pub fn row_of(code: &str) -> Option<&'static Explanation>
         .or(first_of(journals(), code))
         .or(first_of(entries(), code))
         .or(first_of(seals(), code))
+        .or(first_of(carries(), code))
         .or(first_of(words(), code))
         .or(first_of(seasons(), code))
         .or(first_of(lists(), code))
@@ -116,6 +119,7 @@ fn first_of<'a>(rows: &'a [Explanation], code: &str) -> Option<&'a Explanation>
     rows.iter().find(|row| row.code.eq_ignore_ascii_case(code)
         && row.behind != "E2"
         && row.behind != "SEAL"
+        && row.behind != "CARRY"
         && row.behind != "SEASON")
 }
 
@@ -169,6 +173,10 @@ fn seasons() -> &'static [Explanation] {
 
 fn seals() -> &'static [Explanation] {
     SEALS
+}
+
+fn carries() -> &'static [Explanation] {
+    CARRIES
 }
 
 fn words() -> &'static [Explanation] {

@@ -4,6 +4,7 @@
 
 mod answers;
 mod asked;
+mod carries;
 mod counted;
 mod explanations;
 mod journals;

@@ -21,7 +21,7 @@ pub(crate) const WORDS: &[Explanation] = &[
         behind: "E2",
         code: "shards",
         numbers: NONE,
-        text: "--shards takes journals as they stand: it is beside none of --after, --behind, --today, --refused, --sealed and --open.",
+        text: "--shards of audit takes journals as they stand: it is beside none of --after, --behind, --today, --refused, --sealed and --open.\nOf route: it is no number of 1 to 999, in at most three digits.",
     },
     Explanation {
         behind: "E2",
@@ -39,7 +39,7 @@ pub(crate) const WORDS: &[Explanation] = &[
         behind: "E2",
         code: "script",
         numbers: NONE,
-        text: "There are more than 8 scripts, or some have a number ahead of their file, as 3=lisbon.txt, and some have none,\nor a number is not one digit of 1 to 8, stands twice or has no file behind it. A file whose name begins so is ./3=lisbon.txt.\nOr one file, by whatever names, is the script of two sessions, or a script and the file of --changes: run would book twice\nwhat it asks. seatdesk -v says which.\nOr there is no script: run needs one unless it has --changes, and audit where it has --after, --behind, --today or --refused.",
+        text: "There are more than 8 scripts, or some have a number ahead of their file, as 3=lisbon.txt, and some have none,\nor a number is not one digit of 1 to 8, stands twice or has no file behind it. A file whose name begins so is ./3=lisbon.txt.\nOr one file, by whatever names, is the script of two sessions, or a script and the file of --changes: run would book twice\nwhat it asks. seatdesk -v says which.\nOr there is no script: run and route need one unless they have --changes, and audit where it has --after, --behind, --today or --refused.",
     },
     Explanation {
         behind: "E2",
@@ -99,7 +99,7 @@ pub(crate) const WORDS: &[Explanation] = &[
         behind: "E2",
         code: "journal",
         numbers: NONE,
-        text: "The file of --journal is one of the inputs, other than the journals of --after and --resume, or that of standard output or of standard error (where nothing is said of it, since that would stand in the journal),\nor another run, seatdesk seal or a host has it, as it may have the journal that is to be served, sealed or recovered, or its name is - or ends in .seal, .unfinished or .kept-N,\nor what is called as its seal is another file of the command or no regular file, or --no-clobber keeps it: it is there and not empty. Nothing was written. seatdesk -v says which of these it is.",
+        text: "The file of --journal is one of the inputs, other than the journals of --after and --resume, as JOURNAL of carry is one, or that of standard output or of standard error (where nothing is said of it, since that would stand in the journal),\nor another run, seatdesk seal or a host has it, as it may have the journal that is to be served, sealed, recovered or carried, or its name is - or ends in .seal, .unfinished or .kept-N,\nor what is called as its seal is another file of the command or no regular file, or --no-clobber keeps it: it is there and not empty. Nothing was written. seatdesk -v says which of these it is.",
     },
     Explanation {
         behind: "E2",

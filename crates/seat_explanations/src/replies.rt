@@ -32,7 +32,7 @@ const REPLIES: &[Explanation] = &[
         behind: "",
         code: "UN",
         numbers: NONE,
-        text: "Unable, the flight does not operate: on its day no flight of its number goes from the one city to the other\nin the days of --first and --days. The day of a request has its year by --today.",
+        text: "Unable, the flight does not operate: on its day no flight of its number goes from the one city to the other\nin the days of --first and --days. The day of a request has its year by --today.\nOf carry: the new season has no such flight, or the booking is on a place that no request for its names finds. It is not carried.",
     },
     Explanation {
         behind: "",
@@ -50,7 +50,7 @@ const REPLIES: &[Explanation] = &[
         behind: "",
         code: "UC",
         numbers: NONE,
-        text: "Unable, and not waitlisted: the seats of NN do not fit, and a leg lacks the mark N or waiting room;\nor those of SS do not fit, and there is no waiting room; or LL finds no waiting room.\nA class that is closed on a leg has neither room nor waiting room.",
+        text: "Unable, and not waitlisted: the seats of NN do not fit, and a leg lacks the mark N or waiting room;\nor those of SS do not fit, and there is no waiting room; or LL finds no waiting room.\nA class that is closed on a leg has neither room nor waiting room.\nOf carry: the flight no longer has the class on each leg, and the booking is not carried.",
     },
     Explanation {
         behind: "",
@@ -62,19 +62,19 @@ const REPLIES: &[Explanation] = &[
         behind: "",
         code: "HL",
         numbers: NONE,
-        text: "Have listed: there is waiting room for the seats of LL. A KL follows where they fit at once.\nIn the answer of bookings: the seats of the booking wait.",
+        text: "Have listed: there is waiting room for the seats of LL. A KL follows where they fit at once.\nIn the answer of bookings: the seats of the booking wait. Of carry: they wait as they did, or wait now and were held, where the old\nsegment has HK.",
     },
     Explanation {
         behind: "",
         code: "HK",
         numbers: NONE,
-        text: "Holds confirmed: the seats of the booking are held, in the answer of bookings. It is no reply.",
+        text: "Holds confirmed: the seats of the booking are held, in the answer of bookings. It is no reply.\nOf carry: they are held as they were.",
     },
     Explanation {
         behind: "",
         code: "HX",
         numbers: NONE,
-        text: "Have cancelled: XX has a live booking of the same locator, place and class with so many seats.\nA KL follows for each booking that is confirmed in their place.",
+        text: "Have cancelled: XX has a live booking of the same locator, place and class with so many seats.\nA KL follows for each booking that is confirmed in their place.\nOf carry: for want of room the booking is neither held nor listed on a flight that operates.",
     },
     Explanation {
         behind: "",
@@ -86,7 +86,7 @@ const REPLIES: &[Explanation] = &[
         behind: "",
         code: "KL",
         numbers: NONE,
-        text: "An advice: the seats of a booking that waited are confirmed, behind an HL, an HX or the OK of a change\nor of a class that is opened.",
+        text: "An advice: the seats of a booking that waited are confirmed, behind an HL, an HX or the OK of a change\nor of a class that is opened.\nOf carry: the seats of the booking waited, and are held now.",
     },
     Explanation {
         behind: "",

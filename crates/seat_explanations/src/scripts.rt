@@ -120,10 +120,16 @@ pub(crate) const SCRIPTS: &[Explanation] = &[
         text: "Told to a desk on a pipe that does not read: more than 1 MiB waited for it, and nothing behind that was kept. Its lines were booked all the same.\nSay ?HELLO, and then ?AGAIN with the number of the last line of the journal that was read.",
     },
     Explanation {
+        behind: "-",
+        code: "UNCLOSED",
+        numbers: NONE,
+        text: "Told to the manager of a host that closes what departed: memory was refused, and not each leg that departed before the day that holds is closed.\nThe day holds. Send ?DAY with it again: what is left is closed then.",
+    },
+    Explanation {
         behind: "",
         code: "B1",
         numbers: &["session", "call of that session"],
-        text: "The journal has no line left for a request or a change.\nIt has at most 999,999 lines, with those of --after. Nothing was booked: take fewer requests into one run,\nor begin a new journal, by a run without --after over days on which the old one has no live booking;\nthe bookings of the old one are not known there.",
+        text: "The journal has no line left for a request or a change.\nIt has at most 999,999 lines, with those of --after. Nothing was booked: take fewer requests into one run,\nor take the live bookings into a new journal by seatdesk carry, onto the same season too; or begin one without them, by a run without --after over\ndays on which the old one has no live booking: the bookings of the old one are not known there.",
     },
     Explanation {
         behind: "",

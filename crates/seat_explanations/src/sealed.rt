@@ -9,7 +9,7 @@ pub(crate) const SEALS: &[Explanation] = &[
         behind: "",
         code: "SEAL",
         numbers: NONE,
-        text: "What stands beside the journal, as JOURNAL.seal, is against the command. The word behind SEAL says what it is:\nnone and form are of the seal itself; set, limits, first, days and journal of what the journal belongs to, and are compared ahead of the\njournal's own lines; again, behind and runs of scripts that the journal has already, and come behind the faults of all inputs.\ngrep run JOURNAL.seal shows behind how many lines each run of it began, as run behind 25.",
+        text: "What stands beside the journal, as JOURNAL.seal, is against the command. The word behind SEAL says what it is:\nnone and form are of the seal itself; set, limits, first, days and journal of what the journal belongs to, and are compared ahead of the\njournal's own lines; again, behind and runs of scripts that the journal has already, and come behind the faults of all inputs;\ncarried of a journal whose bookings were carried to another.\ngrep run JOURNAL.seal shows behind how many lines each run of it began, as run behind 25.",
     },
     Explanation {
         behind: "SEAL",
@@ -70,5 +70,11 @@ pub(crate) const SEALS: &[Explanation] = &[
         code: "runs",
         numbers: NONE,
         text: "The seal of the journal of --resume has several runs, which began behind several numbers of lines. Say by --behind N with\nwhich of them the scripts began: N stands in the seal's lines run behind. Behind the first of a day stands what all desks sold that day.\nNew lines of a desk of which several scripts stand in the journal are written into a new one. Scripts that no run has booked yet, as those\nof a day's first run, go on by --after JOURNAL, without --resume.",
+    },
+    Explanation {
+        behind: "SEAL",
+        code: "carried",
+        numbers: NONE,
+        text: "The live bookings of the journal were carried to another one, of which the seal has the digest: sell from that one.\nrun, a host, recover and another carry refuse this one, and audit and the commands that ask what it comes to take it.\nWhere carry was killed, or its disk failed, the other journal may not be there, or not be whole: give the same carry again, and it is finished.",
     },
 ];

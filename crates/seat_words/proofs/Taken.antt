@@ -5,17 +5,17 @@ use Rattle.clap.specs.Words.{Row, Shape, Text, fault_of, is_simple, is_simple_an
 use Rattle.clap.specs.Walk.{answers_to, rows_after}
 use Rattle.clap.specs.Simple.{argument_words, built, built_leaf}
 use Rattle.clap.proofs.OnLiterals.{clap_on_literals}
-use Rattle.seat_words.specs.CommandLine.{asking_app, audit_app, avs_app, bare_app, bookings_app, changes_app, check_app, compare_app, cover_app, explain_app, flights_app, history_app, horizon_app, ladder_app, loads_app, named_app, pickup_app, reconcile_app, recover_app, replies_app, rooms_app, run_app, seal_app, season_app, seatdesk_app, selling_app, serve_app, told_app, waiting_app, why_app, with_switches}
+use Rattle.seat_words.specs.CommandLine.{asking_app, audit_app, avs_app, bare_app, bookings_app, carry_app, changes_app, check_app, compare_app, cover_app, explain_app, flights_app, history_app, horizon_app, ladder_app, loads_app, named_app, pickup_app, reconcile_app, recover_app, replies_app, rooms_app, route_app, run_app, seal_app, season_app, seatdesk_app, selling_app, serve_app, told_app, waiting_app, why_app, with_switches}
 use Rattle.seat_words.specs.Jobs.{Line, is_answerable, is_complete}
 use Rattle.seat_words.proofs.Found.{Each, Yields, is_no_help, line_in}
 use Rattle.seat_words.proofs.Values.{Keeps, append_keeps, flag_keeps, has_required, help_keeps, leaf_values, set_keeps}
 
 pub seatdesk_is_simple : is_simple seatdesk_app ≡ true
-unfolding seatdesk_app asking_app selling_app bare_app named_app ladder_app check_app flights_app cover_app rooms_app loads_app run_app serve_app bookings_app audit_app seal_app recover_app replies_app told_app waiting_app pickup_app history_app avs_app reconcile_app compare_app changes_app why_app explain_app season_app horizon_app clap_on_literals
+unfolding seatdesk_app asking_app selling_app bare_app named_app ladder_app check_app flights_app cover_app rooms_app loads_app run_app serve_app route_app bookings_app audit_app seal_app recover_app replies_app told_app waiting_app pickup_app history_app avs_app reconcile_app compare_app carry_app changes_app why_app explain_app season_app horizon_app clap_on_literals
 seatdesk_is_simple = refl
 
 pub seatdesk_is_free : is_simple_and_free seatdesk_app ≡ true
-unfolding seatdesk_app asking_app selling_app bare_app named_app ladder_app check_app flights_app cover_app rooms_app loads_app run_app serve_app bookings_app audit_app seal_app recover_app replies_app told_app waiting_app pickup_app history_app avs_app reconcile_app compare_app changes_app why_app explain_app season_app horizon_app clap_on_literals
+unfolding seatdesk_app asking_app selling_app bare_app named_app ladder_app check_app flights_app cover_app rooms_app loads_app run_app serve_app route_app bookings_app audit_app seal_app recover_app replies_app told_app waiting_app pickup_app history_app avs_app reconcile_app compare_app carry_app changes_app why_app explain_app season_app horizon_app clap_on_literals
 seatdesk_is_free = refl
 
 -- ---- words without a fault give a line of one of the commands
@@ -64,6 +64,11 @@ unfolding serve_app horizon_app
 serve_line = leaf_line is_complete (built_leaf (with_switches serve_app).top)
     (set_keeps _ refl refl, (set_keeps _ refl refl, (set_keeps _ refl refl, (set_keeps _ refl refl, (set_keeps _ refl refl, (set_keeps _ refl refl, (set_keeps _ refl refl, (append_keeps _ refl refl, (set_keeps _ refl refl, (set_keeps _ refl refl, (set_keeps _ refl refl, (set_keeps _ refl refl, (set_keeps _ refl refl, (flag_keeps _ refl _ refl, (flag_keeps _ refl _ refl, (flag_keeps _ refl _ refl, (help_keeps _ refl, tt))))))))))))))))) (λ rows h. h)
 
+route_line : Yields is_complete (built_leaf (with_switches route_app).top)
+unfolding route_app
+route_line = leaf_line is_complete (built_leaf (with_switches route_app).top)
+    (set_keeps _ refl refl, (set_keeps _ refl refl, (append_keeps _ refl refl, (flag_keeps _ refl _ refl, (flag_keeps _ refl _ refl, (help_keeps _ refl, tt)))))) (λ rows h. h)
+
 bookings_line : Yields is_complete (built_leaf (with_switches bookings_app).top)
 unfolding bookings_app horizon_app
 bookings_line = leaf_line is_complete (built_leaf (with_switches bookings_app).top)
@@ -98,6 +103,11 @@ compare_line : Yields is_complete (built_leaf (with_switches compare_app).top)
 unfolding compare_app
 compare_line = leaf_line is_complete (built_leaf (with_switches compare_app).top)
     (set_keeps _ refl refl, (set_keeps _ refl refl, (set_keeps _ refl refl, (flag_keeps _ refl _ refl, (flag_keeps _ refl _ refl, (help_keeps _ refl, tt)))))) (λ rows h. h)
+
+carry_line : Yields is_complete (built_leaf (with_switches carry_app).top)
+unfolding carry_app
+carry_line = leaf_line is_complete (built_leaf (with_switches carry_app).top)
+    (set_keeps _ refl refl, (set_keeps _ refl refl, (set_keeps _ refl refl, (set_keeps _ refl refl, (flag_keeps _ refl _ refl, (flag_keeps _ refl _ refl, (flag_keeps _ refl _ refl, (flag_keeps _ refl _ refl, (set_keeps _ refl refl, (flag_keeps _ refl _ refl, (flag_keeps _ refl _ refl, (help_keeps _ refl, tt)))))))))))) (λ rows h. h)
 
 changes_line : Yields is_complete (built_leaf (with_switches changes_app).top)
 unfolding changes_app horizon_app
@@ -155,7 +165,7 @@ no_help name o h = let e : name ≡ codes "help" = sym ((bytes_eq-Decides (codes
 
 pub seatdesk_line : (words : List Text) → fault_of seatdesk_app words ≡ []
     → is_answerable (subcommand_of seatdesk_app words) ≡ true
-unfolding seatdesk_app asking_app selling_app bare_app named_app ladder_app check_app flights_app cover_app rooms_app loads_app run_app serve_app bookings_app audit_app seal_app recover_app replies_app told_app waiting_app pickup_app history_app avs_app reconcile_app compare_app changes_app why_app explain_app season_app horizon_app
+unfolding seatdesk_app asking_app selling_app bare_app named_app ladder_app check_app flights_app cover_app rooms_app loads_app run_app serve_app route_app bookings_app audit_app seal_app recover_app replies_app told_app waiting_app pickup_app history_app avs_app reconcile_app compare_app carry_app changes_app why_app explain_app season_app horizon_app
 seatdesk_line words e = line_in is_complete (built seatdesk_app) (argument_words seatdesk_app words) refl refl
     (λ name o. (
       λ _. ladder_line,
@@ -171,7 +181,7 @@ seatdesk_line words e = line_in is_complete (built seatdesk_app) (argument_words
                 λ _. loads_line,
                 (
                   λ _. run_line,
-                  (λ _. serve_line, (λ _. bookings_line, (λ _. waiting_line, (λ _. pickup_line, (λ _. history_line, (λ _. avs_line, (λ _. reconcile_line, (λ _. compare_line, (λ _. changes_line, (λ _. audit_line, (λ _. seal_line, (λ _. recover_line, (λ _. replies_line, (λ _. told_line, (λ _. why_line, (λ _. explain_line, (λ _. season_line, (λ h. absurd (no_help name o h), tt)))))))))))))))))),
+                  (λ _. serve_line, (λ _. route_line, (λ _. bookings_line, (λ _. waiting_line, (λ _. pickup_line, (λ _. history_line, (λ _. avs_line, (λ _. reconcile_line, (λ _. compare_line, (λ _. carry_line, (λ _. changes_line, (λ _. audit_line, (λ _. seal_line, (λ _. recover_line, (λ _. replies_line, (λ _. told_line, (λ _. why_line, (λ _. explain_line, (λ _. season_line, (λ h. absurd (no_help name o h), tt)))))))))))))))))))),
                 ),
               ),
             ),

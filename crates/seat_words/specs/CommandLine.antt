@@ -140,6 +140,12 @@ serve_app = with_rule (with_rule (with_rule (with_rule (with_rule (with_rule (wi
     (optional (codes "behind")))
     (flag (codes "close-departed"))
 
+unfoldable pub route_app : App
+route_app = with_rule (with_rule (with_rule (new_app (codes "route"))
+    (required_option (codes "shards")))
+    (optional (codes "changes")))
+    (optional_values (codes "scripts"))
+
 unfoldable pub bookings_app : App
 bookings_app = with_rule (with_rule (with_rule (with_rule (with_rule (with_rule (with_rule (horizon_app (codes "bookings"))
     (optional_several (codes "locator")))
@@ -237,6 +243,18 @@ compare_app = with_rule (with_rule (with_rule (new_app (codes "compare"))
     (required_option (codes "to")))
     (optional_value (codes "journal"))
 
+unfoldable pub carry_app : App
+carry_app = with_rule (with_rule (with_rule (with_rule (with_rule (with_rule (with_rule (with_rule (with_rule (new_app (codes "carry"))
+    (required_option (codes "from")))
+    (required_option (codes "to")))
+    (required_option (codes "today")))
+    (required_option (codes "journal")))
+    (flag (codes "displace")))
+    (flag (codes "fresh-limits")))
+    (flag (codes "anew")))
+    (flag (codes "dry-run")))
+    (required_value (codes "carried"))
+
 unfoldable pub changes_app : App
 changes_app = with_rule (with_rule (with_rule (with_rule (with_rule (with_rule (horizon_app (codes "changes"))
     (required_option (codes "to")))
@@ -288,15 +306,15 @@ bare_app = with_switches named_app
 abbrev pub with_command : App → App → App
 with_command program command = with_subcommand program (with_switches command).top
 
--- the commands that work on a schedule, or on one leg
+-- the commands that work on a schedule, on one leg, or on scripts
 unfoldable pub selling_app : App
-selling_app = with_command (with_command (with_command (with_command (with_command (with_command (with_command (with_command
-    bare_app ladder_app) check_app) flights_app) cover_app) rooms_app) loads_app) run_app) serve_app
+selling_app = with_command (with_command (with_command (with_command (with_command (with_command (with_command (with_command (with_command
+    bare_app ladder_app) check_app) flights_app) cover_app) rooms_app) loads_app) run_app) serve_app) route_app
 
--- and those that ask what a journal comes to
+-- and those that ask what a journal comes to, or carry it to another season
 unfoldable pub asking_app : App
-asking_app = with_command (with_command (with_command (with_command (with_command (with_command (with_command (with_command
-    selling_app bookings_app) waiting_app) pickup_app) history_app) avs_app) reconcile_app) compare_app) changes_app
+asking_app = with_command (with_command (with_command (with_command (with_command (with_command (with_command (with_command (with_command
+    selling_app bookings_app) waiting_app) pickup_app) history_app) avs_app) reconcile_app) compare_app) carry_app) changes_app
 
 -- the program: one of its commands must be named
 unfoldable pub seatdesk_app : App

@@ -12,6 +12,7 @@ use Rattle.seat_words.specs.declared.job.RoomsJob.{RoomsJob}
 use Rattle.seat_words.specs.declared.job.LoadsJob.{LoadsJob}
 use Rattle.seat_words.specs.declared.job.RunJob.{RunJob}
 use Rattle.seat_words.specs.declared.job.ServeJob.{ServeJob}
+use Rattle.seat_words.specs.declared.job.RouteJob.{RouteJob}
 use Rattle.seat_words.specs.declared.job.BookingsJob.{BookingsJob}
 use Rattle.seat_words.specs.declared.job.WaitingJob.{WaitingJob}
 use Rattle.seat_words.specs.declared.job.PickupJob.{PickupJob}
@@ -19,11 +20,12 @@ use Rattle.seat_words.specs.declared.job.HistoryJob.{HistoryJob}
 use Rattle.seat_words.specs.declared.job.AvsJob.{AvsJob}
 use Rattle.seat_words.specs.declared.job.ReconcileJob.{ReconcileJob}
 use Rattle.seat_words.specs.declared.job.CompareJob.{CompareJob}
+use Rattle.seat_words.specs.declared.job.CarryJob.{CarryJob}
 use Rattle.seat_words.specs.declared.job.ChangesJob.{ChangesJob}
 use Rattle.seat_words.specs.declared.job.AuditJob.{AuditJob}
 use Rattle.seat_words.specs.declared.job.RepliesJob.{RepliesJob}
 use Rattle.seat_words.specs.declared.job.ToldJob.{ToldJob}
-use Rattle.seat_words.specs.declared.job.Job.TheVariants.{Ladder, Check, Flights, Cover, Rooms, Loads, Run, Serve, Bookings, Waiting, Pickup, History, Avs, Reconcile, Compare, Changes, Audit, Seal, Recover, Replies, Told, Why, Explain, Season}
+use Rattle.seat_words.specs.declared.job.Job.TheVariants.{Ladder, Check, Flights, Cover, Rooms, Loads, Run, Serve, Route, Bookings, Waiting, Pickup, History, Avs, Reconcile, Compare, Carry, Changes, Audit, Seal, Recover, Replies, Told, Why, Explain, Season}
 
 -- a command that clap found in the words, and what it found of the command's values
 abbrev pub Line : Type 0
@@ -121,6 +123,11 @@ IsServe rows asked = IsOver rows asked.over
     × MayHave rows (codes "behind") (option_map (λ text. text.now) asked.behind)
     × HasFlag rows (codes "close-departed") asked.closes_departed
 
+abbrev pub IsRoute : List Row → RouteJob → Type 0
+IsRoute rows asked = Has rows (codes "shards") asked.shards.now
+    × MayHave rows (codes "changes") (option_map (λ text. text.now) asked.changes)
+    × HasAny rows (codes "scripts") asked.scripts
+
 abbrev pub IsBookings : List Row → BookingsJob → Type 0
 IsBookings rows asked = IsOver rows asked.over
     × HasAny rows (codes "locator") asked.locators
@@ -180,6 +187,17 @@ IsCompare rows asked = Has rows (codes "from") asked.from.now
     × Has rows (codes "to") asked.to.now
     × MayHave rows (codes "journal") (option_map (λ text. text.now) asked.journal)
 
+abbrev pub IsCarry : List Row → CarryJob → Type 0
+IsCarry rows asked = Has rows (codes "from") asked.from.now
+    × Has rows (codes "to") asked.to.now
+    × Has rows (codes "today") asked.today.now
+    × Has rows (codes "journal") asked.new.now
+    × HasFlag rows (codes "displace") asked.displaces
+    × HasFlag rows (codes "fresh-limits") asked.fresh_limits
+    × HasFlag rows (codes "anew") asked.anew
+    × HasFlag rows (codes "dry-run") asked.dry_run
+    × Has rows (codes "carried") asked.journal.now
+
 abbrev pub IsChanges : List Row → ChangesJob → Type 0
 IsChanges rows asked = IsOver rows asked.over
     × Has rows (codes "to") asked.wanted.now
@@ -234,6 +252,7 @@ Asks (Rooms asked) line = (line.0 ≡ codes "rooms") × IsRooms line.1 asked
 Asks (Loads asked) line = (line.0 ≡ codes "loads") × IsLoads line.1 asked
 Asks (Run asked) line = (line.0 ≡ codes "run") × IsRun line.1 asked
 Asks (Serve asked) line = (line.0 ≡ codes "serve") × IsServe line.1 asked
+Asks (Route asked) line = (line.0 ≡ codes "route") × IsRoute line.1 asked
 Asks (Bookings asked) line = (line.0 ≡ codes "bookings") × IsBookings line.1 asked
 Asks (Waiting asked) line = (line.0 ≡ codes "waiting") × IsWaiting line.1 asked
 Asks (Pickup asked) line = (line.0 ≡ codes "pickup") × IsPickup line.1 asked
@@ -241,6 +260,7 @@ Asks (History asked) line = (line.0 ≡ codes "history") × IsHistory line.1 ask
 Asks (Avs asked) line = (line.0 ≡ codes "avs") × IsAvs line.1 asked
 Asks (Reconcile asked) line = (line.0 ≡ codes "reconcile") × IsReconcile line.1 asked
 Asks (Compare asked) line = (line.0 ≡ codes "compare") × IsCompare line.1 asked
+Asks (Carry asked) line = (line.0 ≡ codes "carry") × IsCarry line.1 asked
 Asks (Changes asked) line = (line.0 ≡ codes "changes") × IsChanges line.1 asked
 Asks (Audit asked) line = (line.0 ≡ codes "audit") × IsAudit line.1 asked
 Asks (Seal over journal) line = (line.0 ≡ codes "seal")
@@ -282,7 +302,7 @@ journal_values = (codes "audit", horizon_values ++ codes "journal" ∷ [])
     ∷ (codes "season", codes "set" ∷ codes "limits" ∷ [])
     ∷ []
 
--- ahead of them those of each command that asks what a journal comes to
+-- ahead of them those of each command that asks what a journal comes to, or carries it to another season
 abbrev pub asking_values : List (Text × List Text)
 asking_values = (codes "bookings", horizon_values ++ codes "journal" ∷ [])
     ∷ (codes "waiting", horizon_values ++ codes "journal" ∷ [])
@@ -291,6 +311,7 @@ asking_values = (codes "bookings", horizon_values ++ codes "journal" ∷ [])
     ∷ (codes "avs", horizon_values ++ codes "journal" ∷ [])
     ∷ (codes "reconcile", horizon_values ++ codes "theirs" ∷ codes "journal" ∷ [])
     ∷ (codes "compare", codes "from" ∷ codes "to" ∷ [])
+    ∷ (codes "carry", codes "from" ∷ codes "to" ∷ codes "today" ∷ codes "journal" ∷ codes "carried" ∷ [])
     ∷ (codes "changes", horizon_values ++ codes "to" ∷ codes "journal" ∷ [])
     ∷ journal_values
 
@@ -304,6 +325,7 @@ asked_values = (codes "ladder", [])
     ∷ (codes "loads", horizon_values)
     ∷ (codes "run", horizon_values ++ codes "today" ∷ codes "journal" ∷ [])
     ∷ (codes "serve", horizon_values ++ codes "journal" ∷ [])
+    ∷ (codes "route", codes "shards" ∷ [])
     ∷ asking_values
 
 abbrev pub has_values : List Text → List Row → Bool

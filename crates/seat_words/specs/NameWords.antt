@@ -1,4 +1,4 @@
--- Words that name a pair of stations, a flight, a line of a journal, how many lines it began with, or a session.
+-- Words that name a pair of stations, a flight, a line of a journal, how many lines it began with, a number of shards, or a session.
 use Rattle.std.specs.Prelude.{◌≡◌, ℕ, ◌≤◌, nat_le, ◌-◌, ◌&&◌, if◌then◌else◌, true, List, [], ◌∷◌, length, take, drop, Option, Some, None}
 use Rattle.std.specs.Char.{is_ascii_digit, is_ascii_uppercase}
 use Rattle.std.specs.List.{list_all}
@@ -38,6 +38,13 @@ pub record IsBehindWord (word : List ℕ) (n : ℕ) : Type 0 where
   pub some : 1 ≤ length word
   pub short : length word ≤ 6
   pub value : digits_value 10 word ≡ n
+
+-- the word is n in one to three digits, from 1 to 999
+pub record IsShardsWord (word : List ℕ) (n : ℕ) : Type 0 where
+  pub digits : list_all is_ascii_digit word ≡ true
+  pub short : length word ≤ 3
+  pub value : digits_value 10 word ≡ n
+  pub least : 1 ≤ n
 
 -- the digit of a session, 0 to 8
 abbrev pub session_in : List ℕ → Option ℕ

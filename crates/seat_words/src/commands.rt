@@ -8,6 +8,7 @@ mod controllers;
 mod journals;
 mod partners;
 mod questions;
+mod routes;
 mod sales;
 mod schedules;
 
@@ -20,7 +21,8 @@ use questions::{
     bookings_command, history_command, loads_command, pickup_command, rooms_command,
     waiting_command,
 };
-use sales::{recover_command, run_command, seal_command, serve_command};
+use routes::route_command;
+use sales::{carry_command, recover_command, run_command, seal_command, serve_command};
 use schedules::{
     check_command, compare_command, cover_command, explain_command, flights_command,
     ladder_command, season_command,
@@ -54,7 +56,7 @@ pub(crate) fn seatdesk_command<'a>(alloc: Global) -> Result<Command<'a>, AllocEr
     with_command(alloc, program, season_command(alloc))
 }
 
-// The program with those, and with the commands that ask what a journal comes to.
+// The program with those, and with the commands that ask what a journal comes to, or carry it to another season.
 fn asking_command<'a>(alloc: Global) -> Result<Command<'a>, AllocError>
     ensures { IfOk result (IsBuiltAs asking_app) }
 {
@@ -66,10 +68,11 @@ fn asking_command<'a>(alloc: Global) -> Result<Command<'a>, AllocError>
     let program = with_command(alloc, program, avs_command(alloc));
     let program = with_command(alloc, program, reconcile_command(alloc));
     let program = with_command(alloc, program, compare_command(alloc));
+    let program = with_command(alloc, program, carry_command(alloc));
     with_command(alloc, program, changes_command(alloc))
 }
 
-// The program with the commands that work on a schedule, or on one leg.
+// The program with the commands that work on a schedule, on one leg, or on scripts.
 fn selling_command<'a>(alloc: Global) -> Result<Command<'a>, AllocError>
     ensures { IfOk result (IsBuiltAs selling_app) }
 {
@@ -81,7 +84,8 @@ fn selling_command<'a>(alloc: Global) -> Result<Command<'a>, AllocError>
     let program = with_command(alloc, program, rooms_command(alloc));
     let program = with_command(alloc, program, loads_command(alloc));
     let program = with_command(alloc, program, run_command(alloc));
-    with_command(alloc, program, serve_command(alloc))
+    let program = with_command(alloc, program, serve_command(alloc));
+    with_command(alloc, program, route_command(alloc))
 }
 
 // The program with one more command, which has the switches too, if both could be made.

@@ -181,6 +181,30 @@ pub fn examples_are_read()
         ((codes "from", codes "examples/summer.toml" ∷ []) ∷ (codes "to", codes "winter.toml" ∷ [])
         ∷ (codes "journal", codes "examples/journal.txt" ∷ [])
         ∷ (codes "verbose", codes "false" ∷ []) ∷ (codes "quiet", codes "false" ∷ []) ∷ []) }
+    ensures carry { IsReadTo
+        (codes "seatdesk carry --from examples/summer.toml --to winter.toml --today 2024-06-20 --journal winter.txt examples/journal.txt")
+        (codes "carry")
+        ((codes "from", codes "examples/summer.toml" ∷ []) ∷ (codes "to", codes "winter.toml" ∷ [])
+        ∷ (codes "today", codes "2024-06-20" ∷ []) ∷ (codes "journal", codes "winter.txt" ∷ [])
+        ∷ (codes "carried", codes "examples/journal.txt" ∷ [])
+        ∷ (codes "displace", codes "false" ∷ []) ∷ (codes "fresh-limits", codes "false" ∷ [])
+        ∷ (codes "anew", codes "false" ∷ []) ∷ (codes "dry-run", codes "false" ∷ [])
+        ∷ (codes "verbose", codes "false" ∷ []) ∷ (codes "quiet", codes "false" ∷ []) ∷ []) }
+    ensures trial { IsReadTo
+        (codes "seatdesk carry --from examples/summer.toml --to winter.toml --today 2024-06-20 --journal winter.txt --displace --dry-run examples/journal.txt")
+        (codes "carry")
+        ((codes "from", codes "examples/summer.toml" ∷ []) ∷ (codes "to", codes "winter.toml" ∷ [])
+        ∷ (codes "today", codes "2024-06-20" ∷ []) ∷ (codes "journal", codes "winter.txt" ∷ [])
+        ∷ (codes "displace", codes "true" ∷ []) ∷ (codes "dry-run", codes "true" ∷ [])
+        ∷ (codes "carried", codes "examples/journal.txt" ∷ [])
+        ∷ (codes "fresh-limits", codes "false" ∷ []) ∷ (codes "anew", codes "false" ∷ [])
+        ∷ (codes "verbose", codes "false" ∷ []) ∷ (codes "quiet", codes "false" ∷ []) ∷ []) }
+    ensures route { IsReadTo
+        (codes "seatdesk route --shards 4 examples/london.txt examples/lisbon.txt")
+        (codes "route")
+        ((codes "shards", codes "4" ∷ [])
+        ∷ (codes "scripts", codes "examples/london.txt" ∷ codes "examples/lisbon.txt" ∷ [])
+        ∷ (codes "verbose", codes "false" ∷ []) ∷ (codes "quiet", codes "false" ∷ []) ∷ []) }
     ensures wanted { IsReadTo
         (codes "seatdesk changes --set examples/summer.ssim --limits examples/limits.txt --first 2024-07-01 --days 31 --to examples/wanted.txt examples/journal.txt")
         (codes "changes")

@@ -30,13 +30,14 @@ pub enum WordFault {
     BadDesk,
     /// How often the status is said is not 1 to 3600 seconds, or its file is none that a host may rewrite, or there are no desks on pipes.
     BadStatus,
-    /// The file of the journal is an input or that of the replies, is another run's, or may not be replaced.
+    /// The file of the journal is an input or that of the replies or of the report, is another run's, or may not be replaced.
     BadJournal,
     /// The file of the refused lines is an input, the journal or that of the replies, is another run's, or may not be replaced.
     BadRefused,
     /// What the loads are summed by is none of those that they may be.
     BadBy,
-    /// Journals of several hosts are audited as they stand: ended, without scripts, older journals and seals.
+    /// Journals of several hosts are audited as they stand: ended, without scripts, older journals and seals. Or the number of shards is
+    /// not one of 1 to 999.
     BadShards,
     /// More than one form of the answer is asked for.
     BadForm,

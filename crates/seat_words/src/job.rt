@@ -4,7 +4,7 @@ ghost use Rattle.clap.specs.Walk.{texts};
 ghost use Rattle.clap.specs.Words.{FailsBy, all_of, fault_of, first_of, found_of, kind_of, matches_of, rows_of, subcommand_of, subcommand_rows_of, takes};
 ghost use Rattle.clap.specs.declared.error.kind.ErrorKind.TheVariants.{ArgumentConflict, InvalidValue, OutOfMemory};
 ghost use Rattle.seat_words.specs.CommandLine.{seatdesk_app};
-ghost use Rattle.seat_words.specs.Jobs.{Asks, IsAudit, IsAvs, IsBookings, IsChanges, IsCompare, IsCover, IsHistory, IsLoads, IsOver, IsPickup, IsReconcile, IsReplies, IsRooms, IsRun, IsServe, IsShaped, IsTold, IsWaiting, asking_values, has_values, horizon_values, is_answerable, is_complete, is_complete_of, is_flagged, is_quiet, is_switched, is_verbose, journal_values};
+ghost use Rattle.seat_words.specs.Jobs.{Asks, IsAudit, IsAvs, IsBookings, IsCarry, IsChanges, IsCompare, IsCover, IsHistory, IsLoads, IsOver, IsPickup, IsReconcile, IsReplies, IsRooms, IsRoute, IsRun, IsServe, IsShaped, IsTold, IsWaiting, asking_values, has_values, horizon_values, is_answerable, is_complete, is_complete_of, is_flagged, is_quiet, is_switched, is_verbose, journal_values};
 
 use super::commands::seatdesk_command;
 use super::several::Several;
@@ -57,6 +57,8 @@ pub enum Job<'a> {
     /// `seatdesk serve` over a horizon `[--today DATE] --journal JOURNAL [--desk DESK]... [--manager PIPES] [--status FILE]
     /// [--every SECONDS] [--feed FEED] [--behind N] [--close-departed]`
     Serve(ServeJob<'a>),
+    /// `seatdesk route --shards N [--changes FILE] [SCRIPT...]`
+    Route(RouteJob<'a>),
     /// `seatdesk bookings` over a horizon `[--locator LOCATOR]... [--flight FLIGHT] [--day DATE] [--csv] [--json] [--open] JOURNAL`
     Bookings(BookingsJob<'a>),
     /// `seatdesk waiting` over a horizon `[--flight FLIGHT] [--day DATE] [--csv] [--json] [--open] JOURNAL`
@@ -71,6 +73,8 @@ pub enum Job<'a> {
     Reconcile(ReconcileJob<'a>),
     /// `seatdesk compare --from SEASON --to SEASON [JOURNAL]`
     Compare(CompareJob<'a>),
+    /// `seatdesk carry --from SEASON --to SEASON --today DATE --journal NEW [--displace] [--fresh-limits] [--anew] [--dry-run] JOURNAL`
+    Carry(CarryJob<'a>),
     /// `seatdesk changes` over a horizon `--to WANTED [--flight FLIGHT] [--day DATE] [--pair PAIR] [--open] JOURNAL`
     Changes(ChangesJob<'a>),
     /// `seatdesk audit` over a horizon `[--after JOURNAL] [--behind N] [--today DATE] [--refused FILE] [--sealed] [--open] [--shards]
@@ -184,6 +188,16 @@ pub struct ServeJob<'a> {
     pub closes_departed: bool,
 }
 
+/// What `seatdesk route` asks for.
+#[derive(Drop)]
+pub struct RouteJob<'a> {
+    /// How many shards there are.
+    pub shards: &'a str,
+    pub changes: Option<&'a str>,
+    /// None or more.
+    pub scripts: Several<'a>,
+}
+
 /// What `seatdesk bookings` asks for.
 #[derive(Drop)]
 pub struct BookingsJob<'a> {
@@ -266,6 +280,27 @@ pub struct CompareJob<'a> {
     pub from: &'a str,
     pub to: &'a str,
     pub journal: Option<&'a str>,
+}
+
+/// What `seatdesk carry` asks for: two season files, and the journal of the first, whose live bookings a new one of the second is to have.
+#[derive(Clone, Copy)]
+pub struct CarryJob<'a> {
+    pub from: &'a str,
+    pub to: &'a str,
+    /// The day before which a booking has departed, and is not carried.
+    pub today: &'a str,
+    /// The journal that is made.
+    pub new: &'a str,
+    /// Where a leg has too few seats the highest numbers lose.
+    pub displaces: bool,
+    /// The limits are those of the second season's file, without what changes and closings of the journal set.
+    pub fresh_limits: bool,
+    /// Takes the place of a carry that did not end, and had another result.
+    pub anew: bool,
+    /// Writes the report alone.
+    pub dry_run: bool,
+    /// The journal that is carried.
+    pub journal: &'a str,
 }
 
 /// What `seatdesk changes` asks for.
@@ -396,7 +431,7 @@ fn job_of<'a>(alloc: Global, matches: &ArgMatches<'a>) -> Result<Job<'a>, AllocE
     job_named(alloc, name, inner)
 }
 
-// A command that works on a schedule, on one leg or on a host, or one of the others.
+// A command that works on a schedule, on one leg, on a host or on scripts, or one of the others.
 fn job_named<'a>(alloc: Global, name: &str, matches: &ArgMatches<'a>) -> Result<Job<'a>, AllocError>
     requires { is_complete (name.now, rows_of (found_of matches.now)) ≡ true }
     ensures { IfOk result (λ job. Asks job (name.now, rows_of (found_of matches.now))) }
@@ -417,11 +452,12 @@ fn job_named<'a>(alloc: Global, name: &str, matches: &ArgMatches<'a>) -> Result<
         "loads" => Ok(Job::Loads(loads_asked(matches))),
         "run" => Ok(Job::Run(run_asked(alloc, matches)?)),
         "serve" => Ok(Job::Serve(serve_asked(alloc, matches)?)),
+        "route" => Ok(Job::Route(route_asked(alloc, matches)?)),
         _ => asking_job(alloc, name, matches),
     }
 }
 
-// A command that asks what a journal comes to, or one that is named behind these.
+// A command that asks what a journal comes to or carries it to another season, or one that is named behind these.
 fn asking_job<'a>(
     alloc: Global,
     name: &str,
@@ -438,6 +474,7 @@ fn asking_job<'a>(
         "avs" => Ok(Job::Avs(avs_asked(matches))),
         "reconcile" => Ok(Job::Reconcile(reconcile_asked(matches))),
         "compare" => Ok(Job::Compare(compare_asked(matches))),
+        "carry" => Ok(Job::Carry(carry_asked(matches))),
         "changes" => Ok(Job::Changes(changes_asked(matches))),
         _ => journal_job(alloc, name, matches),
     }
@@ -563,6 +600,18 @@ fn serve_asked<'a>(alloc: Global, matches: &ArgMatches<'a>) -> Result<ServeJob<'
     })
 }
 
+fn route_asked<'a>(alloc: Global, matches: &ArgMatches<'a>) -> Result<RouteJob<'a>, AllocError>
+    requires { is_complete (codes "route", rows_of (found_of matches.now)) ≡ true }
+    ensures { IfOk result (IsRoute (rows_of (found_of matches.now))) }
+{
+    let changes = may_value_of(matches, "changes");
+    Ok(RouteJob {
+        shards: value_of(matches, "shards"),
+        changes,
+        scripts: any_values_of(alloc, matches, "scripts")?,
+    })
+}
+
 fn bookings_asked<'a>(
     alloc: Global,
     matches: &ArgMatches<'a>,
@@ -664,6 +713,23 @@ fn compare_asked<'a>(matches: &ArgMatches<'a>) -> CompareJob<'a>
         from: value_of(matches, "from"),
         to: value_of(matches, "to"),
         journal: may_value_of(matches, "journal"),
+    }
+}
+
+fn carry_asked<'a>(matches: &ArgMatches<'a>) -> CarryJob<'a>
+    requires { is_complete (codes "carry", rows_of (found_of matches.now)) ≡ true }
+    ensures { IsCarry (rows_of (found_of matches.now)) result }
+{
+    CarryJob {
+        from: value_of(matches, "from"),
+        to: value_of(matches, "to"),
+        today: value_of(matches, "today"),
+        new: value_of(matches, "journal"),
+        displaces: flag_of(matches, "displace"),
+        fresh_limits: flag_of(matches, "fresh-limits"),
+        anew: flag_of(matches, "anew"),
+        dry_run: flag_of(matches, "dry-run"),
+        journal: value_of(matches, "carried"),
     }
 }
 

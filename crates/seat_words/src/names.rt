@@ -1,7 +1,7 @@
-//! Words that name a pair of stations, a flight, a locator, a line of a journal, how many lines it began with, or a session.
+//! Words that name a pair of stations, a flight, a locator, a line of a journal, how many lines it began with, a number of shards, or a session.
 ghost use Rattle.std.specs.Prelude.{◌≡◌, ℕ, IfSome, Some, None, if◌then◌else◌};
 ghost use Rattle.airline_base.specs.Names.{is_locator};
-ghost use Rattle.seat_words.specs.NameWords.{IsBehindWord, IsLineWord, flight_in, pair_word_in, session_in, suffix_in};
+ghost use Rattle.seat_words.specs.NameWords.{IsBehindWord, IsLineWord, IsShardsWord, flight_in, pair_word_in, session_in, suffix_in};
 
 use airline_base::fields::{airline_of, are_digits, numeral_of, value_of};
 use airline_base::{Airline, Locator, Station};
@@ -73,6 +73,22 @@ pub fn behind_word(word: &str) -> Option<u32>
         return None;
     }
     Some(value_of(digits))
+}
+
+/// The number of shards that the word names: one to three digits, of value 1 to 999.
+pub fn shards_word(word: &str) -> Option<u16>
+    ensures value { IfSome result (IsShardsWord word.now) }
+    ensures only { (n : ℕ) → IsShardsWord word.now n → result ≡ Some n }
+{
+    let digits = word.as_bytes();
+    if digits.len() > 3 || !are_digits(digits) {
+        return None;
+    }
+    let shards = value_of(digits);
+    if shards == 0 {
+        return None;
+    }
+    Some(shards as u16)
 }
 
 /// The session that the word names: one digit, 0 for the manager to 8.

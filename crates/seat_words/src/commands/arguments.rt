@@ -30,6 +30,10 @@ pub(super) const OPEN_HELP: &str =
 
 pub(super) const FLIGHT_HELP: &str = "The flights of this name alone, on all their days, as LZ601";
 
+pub(super) const FROM_SEASON_HELP: &str = "The season that holds (a season file)";
+
+pub(super) const TO_SEASON_HELP: &str = "The season that is to come in its place (a season file)";
+
 const LIMITS_HELP: &str = "The booking limits of the legs, in seats from 0 to 999 (a file)";
 
 const SEASON_HELP: &str =

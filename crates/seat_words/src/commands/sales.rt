@@ -1,10 +1,11 @@
 //! The commands that write a journal or its seal.
 ghost use Rattle.std.specs.Prelude.{IfOk};
-ghost use Rattle.seat_words.specs.CommandLine.{IsBuiltAs, recover_app, run_app, seal_app, serve_app};
+ghost use Rattle.seat_words.specs.CommandLine.{IsBuiltAs, carry_app, recover_app, run_app, seal_app, serve_app};
 
 use crate::commands::arguments::Argument::{Flag, Optional, Several, Wanted, WantedWord, Words};
 use crate::commands::arguments::{
-    Argument, SCRIPTS_HELP, TODAY_HELP, horizon_command, with_arguments,
+    Argument, FROM_SEASON_HELP, SCRIPTS_HELP, TO_SEASON_HELP, TODAY_HELP, horizon_command,
+    named_command, with_arguments,
 };
 use clap::Command;
 use std::alloc::{AllocError, Global};
@@ -18,7 +19,8 @@ const SERVED_HELP: &str =
 const DESK_PLACE_HELP: &str =
     "Where a desk is: N=IN:OUT, its session and its two pipes, up to eight times, or - alone, for standard input and standard output as session 1";
 
-const MANAGER_HELP: &str = "The two pipes of the manager, as IN:OUT, whom desks on pipes need";
+const MANAGER_HELP: &str =
+    "The two pipes of the manager, as IN:OUT, whom desks on pipes need; its lines change limits, and close and open classes";
 
 const STATUS_HELP: &str =
     "The file that says how a host of desks on pipes, or of a feed, is doing: lines, groups, desks, seats sold. It is rewritten whole";
@@ -53,7 +55,7 @@ const CUT_HELP: &str = "Cuts damage too: a whole line that is not right, and wha
 const SEALED_JOURNAL_HELP: &str = "The journal to seal: a file that run wrote";
 
 const CHANGES_HELP: &str =
-    "Changes of the limits, made beside the sessions (a file); without it no limit changes";
+    "Changes of limits, and classes to be closed and opened, by rows AU, CLOSE and OPEN, made beside the sessions (a file); without it no limit changes and no class is closed";
 
 const REFUSED_HELP: &str =
     "Passes over each wrong line of the scripts and lists it in this file, by its code, session and line; without it a wrong line refuses the run";
@@ -62,6 +64,26 @@ const NO_CLOBBER_HELP: &str = "Refuses an OUT that is there and is not empty";
 
 const AGAIN_HELP: &str =
     "Books scripts once more that a run of the journal has booked, as its seal says";
+
+const CARRIED_DAY_HELP: &str =
+    "The day of the carry, as 2024-06-01, from 2000 to 2099; a booking that departed before it is not carried";
+
+const NEW_HELP: &str =
+    "The journal of the season of --to, which is made (a file); it may not be JOURNAL";
+
+const DISPLACE_HELP: &str =
+    "Where a leg has too few seats the bookings of the highest numbers lose theirs, and wait where they may; without it no file is written then";
+
+const FRESH_LIMITS_HELP: &str =
+    "The limits are those of the season of --to, without what changes and closings of JOURNAL set";
+
+const ANEW_HELP: &str =
+    "Takes the place of a carry of JOURNAL that did not end, and had another result";
+
+const DRY_RUN_HELP: &str = "Writes the report alone: neither NEW nor the seal of JOURNAL";
+
+const CARRIED_HELP: &str =
+    "The journal of the season of --from, whose live bookings are carried: a file that run or serve wrote, which is locked";
 
 const RUN: &[Argument] = &[
     Optional("after", "JOURNAL", AFTER_HELP),
@@ -141,4 +163,28 @@ pub(super) fn recover_command<'a>(alloc: Global) -> Result<Command<'a>, AllocErr
         "A torn line behind the right ones is kept beside JOURNAL, as JOURNAL.torn-1, and cut. A whole line that is not right is refused\nas audit --open refuses it: it may be the wrong set or limits. With --cut it is kept and cut too, with all behind it, where\nthat is no more than a crash leaves: 4096 lines and 256 KiB.\n\nExample: seatdesk recover --set examples/summer.ssim --limits examples/limits.txt --first 2024-07-01 --days 31 journal.txt",
     );
     with_arguments(alloc, recover, RECOVER)
+}
+
+const CARRY: &[Argument] = &[
+    Wanted("from", "SEASON", FROM_SEASON_HELP),
+    Wanted("to", "SEASON", TO_SEASON_HELP),
+    Wanted("today", "DATE", CARRIED_DAY_HELP),
+    Wanted("journal", "NEW", NEW_HELP),
+    Flag("displace", DISPLACE_HELP),
+    Flag("fresh-limits", FRESH_LIMITS_HELP),
+    Flag("anew", ANEW_HELP),
+    Flag("dry-run", DRY_RUN_HELP),
+    WantedWord("carried", "JOURNAL", CARRIED_HELP),
+];
+
+pub(super) fn carry_command<'a>(alloc: Global) -> Result<Command<'a>, AllocError>
+    ensures { IfOk result (IsBuiltAs carry_app) }
+{
+    let carry = named_command(
+        alloc,
+        "carry",
+        "Carries the live bookings of a journal to another season, into a new journal, and reports on each of them",
+        "JOURNAL is sold from no more: its seal says that it was carried, ahead of the first byte of NEW. A carry that was killed between the\ntwo is finished by the same command, given again. Where a leg of the new season has fewer seats than are held no file is written, and\na line of standard error, OVER, says so of each such leg.\n\nExample: seatdesk carry --from examples/summer.toml --to winter.toml --today 2024-06-20 --journal winter.txt examples/journal.txt\n\nThe report alone, of who would lose seats: seatdesk carry --from examples/summer.toml --to winter.toml --today 2024-06-20 --journal winter.txt --displace --dry-run examples/journal.txt",
+    );
+    with_arguments(alloc, Ok(carry), CARRY)
 }

@@ -4,18 +4,14 @@ ghost use Rattle.seat_words.specs.CommandLine.{IsBuiltAs, check_app, compare_app
 
 use crate::commands::arguments::Argument::{Flag, OptionalWord, Rest, Wanted, WantedWord};
 use crate::commands::arguments::{
-    Argument, CSV_HELP, DAYS_HELP, FIRST_HELP, JSON_HELP, SET_HELP, horizon_command, named_command,
-    with_arguments,
+    Argument, CSV_HELP, DAYS_HELP, FIRST_HELP, FROM_SEASON_HELP, JSON_HELP, SET_HELP,
+    TO_SEASON_HELP, horizon_command, named_command, with_arguments,
 };
 use clap::Command;
 use std::alloc::{AllocError, Global};
 
 const SET_INPUT_HELP: &str =
     "The data set of the schedule (SSIM chapter 7, a file, or - for standard input)";
-
-const FROM_SEASON_HELP: &str = "The season that holds (a season file)";
-
-const TO_SEASON_HELP: &str = "The season that is to come in its place (a season file)";
 
 const COMPARED_HELP: &str =
     "The journal of the season of --from: a file that run wrote, or - for standard input";

@@ -11,4 +11,5 @@ returns c =
     let five = c.with_command-program-5.ensures _ _ four c.rooms_command.ensures in
     let six = c.with_command-program-6.ensures _ _ five c.loads_command.ensures in
     let seven = c.with_command-program-7.ensures _ _ six c.run_command.ensures in
-    c.with_command.ensures _ _ seven c.serve_command.ensures
+    let eight = c.with_command-program-8.ensures _ _ seven c.serve_command.ensures in
+    c.with_command.ensures _ _ eight c.route_command.ensures
