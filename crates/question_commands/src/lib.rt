@@ -10,6 +10,7 @@ mod listing;
 mod locale;
 mod reconciling;
 mod replaying;
+mod routing;
 mod shards;
 
 pub use availing::avs;
@@ -19,4 +20,5 @@ pub use comparing::compare;
 pub use listing::{bookings, cover, flights, history, loads, pickup, rooms, waiting};
 pub use reconciling::reconcile;
 pub use replaying::{audit, replies};
+pub use routing::route;
 pub use shards::audit_shards;

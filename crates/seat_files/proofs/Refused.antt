@@ -5,7 +5,7 @@ use Rattle.seat_files.specs.Refusals.{is_failure, is_of_file, is_of_list, is_of_
 use Rattle.seat_words.specs.declared.fault.WordFault.{WordFault}
 use Rattle.seat_words.specs.declared.fault.WordFault.TheVariants as words
 use Rattle.seat_files.specs.declared.fault.Fault.{Fault}
-use Rattle.seat_files.specs.declared.fault.Fault.TheVariants.{Desk, Shards, Feed, Word, Season, Listed}
+use Rattle.seat_files.specs.declared.fault.Fault.TheVariants.{Desk, Shards, Feed, Word, Season, Listed, Carry}
 
 pub of_failure : (fault : Fault) → IsTrue (is_failure fault) → IsTrue (is_of_file fault)
 of_failure (Desk f) failed = failed
@@ -14,6 +14,7 @@ of_failure (Feed line number) failed = absurd (false≢true failed)
 of_failure (Word f) failed = absurd (false≢true failed)
 of_failure (Season f) failed = absurd (false≢true failed)
 of_failure (Listed kind line) failed = absurd (false≢true failed)
+of_failure (Carry kind) failed = absurd (false≢true failed)
 
 pub scripts_of_failure : (fault : Fault) → IsTrue (is_failure fault) → IsTrue (is_of_scripts fault)
 scripts_of_failure (Desk f) failed = failed
@@ -22,6 +23,7 @@ scripts_of_failure (Feed line number) failed = absurd (false≢true failed)
 scripts_of_failure (Word f) failed = absurd (false≢true failed)
 scripts_of_failure (Season f) failed = absurd (false≢true failed)
 scripts_of_failure (Listed kind line) failed = absurd (false≢true failed)
+scripts_of_failure (Carry kind) failed = absurd (false≢true failed)
 
 word_of_list : (f : WordFault) → IsTrue (is_of_file (Word f)) → IsTrue (is_of_list (unlisted (Word f)))
 word_of_list words.BadFirst of_file = absurd (false≢true of_file)
@@ -52,3 +54,4 @@ of_list (Feed line number) of_file = absurd (false≢true of_file)
 of_list (Word f) of_file = word_of_list f of_file
 of_list (Season f) of_file = absurd (false≢true of_file)
 of_list (Listed kind line) of_file = absurd (false≢true of_file)
+of_list (Carry kind) of_file = absurd (false≢true of_file)

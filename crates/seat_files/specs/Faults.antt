@@ -8,7 +8,9 @@ use Rattle.seat_season.specs.FaultText.{season_text}
 use Rattle.seat_shards.specs.Faults.{shard_text, status_of_shards}
 use Rattle.seat_words.specs.FaultText.{word_text}
 use Rattle.seat_files.specs.declared.fault.Fault.{Fault}
-use Rattle.seat_files.specs.declared.fault.Fault.TheVariants.{Desk, Shards, Feed, Word, Season, Listed}
+use Rattle.seat_files.specs.declared.fault.Fault.TheVariants.{Desk, Shards, Feed, Word, Season, Listed, Carry}
+use Rattle.seat_files.specs.declared.fault.CarryKind.{CarryKind}
+use Rattle.seat_files.specs.declared.fault.CarryKind.TheVariants as carries
 use Rattle.seat_files.specs.declared.fault.ListKind.{ListKind}
 use Rattle.seat_files.specs.declared.fault.ListKind.TheVariants as kinds
 
@@ -26,6 +28,10 @@ list_code kinds.Refused = codes "W1"
 abbrev pub list_text : ListKind → ℕ → List ℕ
 list_text kind line = list_code kind ++ codes " " ++ decimal line
 
+abbrev pub carry_code : CarryKind → List ℕ
+carry_code carries.Unfinished = codes "CARRY unfinished"
+carry_code carries.New = codes "CARRY new"
+
 abbrev pub printed : Fault → List ℕ
 printed (Desk fault) = fault_text fault
 printed (Shards fault) = shard_text fault
@@ -33,8 +39,9 @@ printed (Feed line number) = codes "FEED " ++ decimal line ++ codes " " ++ decim
 printed (Word fault) = word_text fault
 printed (Season fault) = season_text fault
 printed (Listed kind line) = list_text kind line
+printed (Carry kind) = carry_code kind
 
--- 2 for the command line, 1 for a feed, a season or a list, else that of the command
+-- 2 for the command line, 1 for a feed, a season, a list or what is not carried, else that of the command
 abbrev pub exit_status : Fault → ℕ
 exit_status (Desk fault) = status_of fault
 exit_status (Shards fault) = status_of_shards fault
@@ -42,3 +49,4 @@ exit_status (Feed line number) = 1
 exit_status (Word fault) = 2
 exit_status (Season fault) = 1
 exit_status (Listed kind line) = 1
+exit_status (Carry kind) = 1

@@ -19,6 +19,32 @@ pub enum Fault {
     Season(SeasonKind),
     /// A line of a partner's list, or of its thresholds, is none, or a row of a list of refused lines is another; they count from 1.
     Listed { kind: ListKind, line: u32 },
+    /// Bookings are not carried from a journal to another.
+    Carry(CarryKind),
+}
+
+/// Why bookings are not carried from a journal to another.
+#[derive(Clone, Copy, Debug, PartialEq, Eq)]
+pub enum CarryKind {
+    /// A carry of the journal to another result was begun and did not end.
+    Unfinished,
+    /// The new journal's file has bytes of another journal.
+    New,
+}
+
+impl fmt::Display for CarryKind {
+    ghost use Rattle.std.specs.Prelude.{Some};
+    ghost use Rattle.seat_files.specs.Faults.{carry_code};
+
+    ghost output = { λ kind. Some (carry_code kind) };
+
+    /// CARRY and one word.
+    fn fmt<W: fmt::Write>(&self, f: &mut fmt::Formatter<W>) -> fmt::Result {
+        match self {
+            CarryKind::Unfinished => f.write_str("CARRY unfinished"),
+            CarryKind::New => f.write_str("CARRY new"),
+        }
+    }
 }
 
 /// What is wrong with a line of a partner's list, of its thresholds, or of a list of refused lines.
@@ -79,6 +105,7 @@ impl fmt::Display for Fault {
             Fault::Word(fault) => fault.fmt(f),
             Fault::Season(fault) => fault.fmt(f),
             Fault::Listed { kind, line } => write!(f, "{kind} {line}"),
+            Fault::Carry(kind) => kind.fmt(f),
         }
     }
 }
@@ -87,7 +114,7 @@ impl Fault {
     ghost use Rattle.std.specs.Prelude.{◌≡◌};
     ghost use Rattle.seat_files.specs.Faults.{exit_status};
 
-    /// The exit status: 2 for the command line, 1 for a feed, a season or a list, else that of the command's fault.
+    /// The exit status: 2 for the command line, 1 for a feed, a season, a list or what is not carried, else that of the command's fault.
     pub fn status(&self) -> u8
         ensures { result ≡ exit_status self.now }
     {
@@ -98,6 +125,7 @@ impl Fault {
             Fault::Word(_) => 2,
             Fault::Season(_) => 1,
             Fault::Listed { .. } => 1,
+            Fault::Carry(_) => 1,
         }
     }
 }

@@ -16,7 +16,7 @@ mod seal_out;
 mod status_file;
 mod streams;
 
-pub use fault::{Fault, ListKind};
+pub use fault::{CarryKind, Fault, ListKind};
 pub use guard::{Guard, NOT_EMPTY, files_taken};
 pub use journal_file::{JournalFile, TOO_LONG, is_one_file, is_same, lines_in, of};
 pub use kept_file::{Content, KEPT_BEFORE, Kept, kept_number};

@@ -4,7 +4,7 @@ ghost use Rattle.seat_files.specs.Faults.{exit_status, list_text, printed};
 ghost use Rattle.seat_files.specs.Refusals.{is_failure, is_of_seal, unlisted};
 ghost use Rattle.seat_shards.specs.Faults.{shard_text, status_of_shards};
 
-use crate::fault::{Fault, ListKind};
+use crate::fault::{CarryKind, Fault, ListKind};
 use crate::journal_file::{JournalFile, is_link};
 use crate::seal_out::SealOut;
 use crate::streams::{Input, Output};
@@ -120,6 +120,13 @@ impl<'a> Refusal<'a> {
         ensures status { exit_status result.fault ≡ 1 }
     {
         Refusal::of(Fault::Listed { kind, line })
+    }
+
+    /// Bookings are not carried to the journal of this name.
+    pub fn of_carry(kind: CarryKind, journal: &'a str) -> Refusal<'a>
+        ensures { result.fault ≡ Fault.Carry kind }
+    {
+        Refusal::of(Fault::Carry(kind)).at(journal, None)
     }
 
     /// What stands behind the fault in its line.
@@ -552,6 +559,7 @@ fn is_of_input(fault: &Fault) -> bool {
         Fault::Word(_) => false,
         Fault::Season(_) => false,
         Fault::Listed { .. } => true,
+        Fault::Carry(_) => false,
     }
 }
 

@@ -43,7 +43,7 @@ const WHOSE: &str =
 const BOTH: &str = "the argument '--session <N>' cannot be used with '--all'";
 
 /// The status of a command that was done, and found a difference.
-const DIFFERS: u8 = 1;
+pub const DIFFERS: u8 = 1;
 
 fn main(rt: HostRuntime) -> ExitCode {
     match start(&rt, &rt) {
@@ -137,6 +137,8 @@ fn carry_out<'a, T: Threads + Wait + Clock + Sync + Copy + Send + 'static>(
         Job::Reconcile(asked) => reconciled(rt, threads, meter, asked),
         Job::Changes(asked) => done(question_commands::changes(rt, threads, meter, asked)),
         Job::Compare(seasons) => season::compared(rt, threads, meter, seasons, asked.is_verbose),
+        Job::Carry(seasons) => season::carried(rt, threads, meter, seasons, asked.is_verbose),
+        Job::Route(asked) => done(question_commands::route(rt, meter, asked)),
         Job::Audit(asked) => done(audited(rt, threads, meter, asked)),
         Job::Seal { over, journal } => done(question_commands::seal(
             rt, threads, meter, over, journal,
@@ -166,6 +168,7 @@ fn meter_for<T: Threads>(rt: &HostRuntime, threads: &T, asked: &CommandLine<'_>)
         Job::Ladder
         | Job::Serve(_)
         | Job::Recover { .. }
+        | Job::Route(_)
         | Job::Explain { .. }
         | Job::Season { .. } => Meter::none(),
         Job::Run(_) => meter_of(rt, threads, Stage::Booking, asked.is_quiet),

@@ -1,8 +1,8 @@
-//! The season that a command line names, or the two of `compare`: its file, its folder, and whether its journal is there.
+//! The season that a command line names, or the two of `compare` and `carry`: its file, its folder, and whether its journal is there.
 //! It knows nothing of what a season says, or of which words stand for it.
 
 use crate::undone::Undone;
-use crate::{done_by, misread, refused};
+use crate::{DIFFERS, done_by, misread, refused};
 use progress_meter::Meter;
 use seat_desk::{DeskFault, read_input};
 use seat_files::{Refusal, opened, told};
@@ -10,7 +10,7 @@ use seat_season::{
     Around, MOST_SEASON_BYTES, Season, SeasonKind, TextFault, Words, beside_season, folder_of,
     path_of, season_named, season_of, season_table, seasoned_words,
 };
-use seat_words::{CompareJob, Horizon, Job, WordFault, read_words, words_in_conflict};
+use seat_words::{CarryJob, CompareJob, Horizon, Job, WordFault, read_words, words_in_conflict};
 use std::alloc::AllocError;
 use std::process::ExitCode;
 use std::sync::Wait;
@@ -78,11 +78,7 @@ pub fn compared<'a, T: Threads + Sync>(
     asked: &CompareJob<'a>,
     is_verbose: bool,
 ) -> Result<ExitCode, Undone<'a>> {
-    let from = match words_over(rt, &OVER, asked.from, is_verbose)? {
-        Ok(words) => words,
-        Err(status) => return Ok(status),
-    };
-    let to = match words_over(rt, &OVER, asked.to, is_verbose)? {
+    let (from, to) = match both_words(rt, asked.from, asked.to, is_verbose)? {
         Ok(words) => words,
         Err(status) => return Ok(status),
     };
@@ -97,8 +93,77 @@ pub fn compared<'a, T: Threads + Sync>(
         asked.journal,
     ) {
         Ok(()) => Ok(ExitCode::SUCCESS),
-        Err(Undone::Word(error)) => Err(Undone::Word(error)),
-        Err(Undone::Refused(refusal)) => {
+        Err(undone) => over_both(rt, meter, is_verbose, undone),
+    }
+}
+
+/// Runs `carry` over what two seasons say of a set, its limits and its days. Its status says too where legs have too few seats.
+pub fn carried<'a, T: Threads + Sync>(
+    rt: &'a HostRuntime,
+    threads: &T,
+    meter: &'a Meter,
+    asked: &CarryJob<'a>,
+    is_verbose: bool,
+) -> Result<ExitCode, Undone<'a>> {
+    let (from, to) = match both_words(rt, asked.from, asked.to, is_verbose)? {
+        Ok(words) => words,
+        Err(status) => return Ok(status),
+    };
+    let from = from.texts(rt.alloc())?;
+    let to = to.texts(rt.alloc())?;
+    let how = How {
+        displaces: asked.displaces,
+        fresh_limits: asked.fresh_limits,
+        anew: asked.anew,
+        dry_run: asked.dry_run,
+    };
+    match carried_over(
+        rt,
+        threads,
+        meter,
+        from.as_slice(),
+        to.as_slice(),
+        asked.from,
+        asked.to,
+        asked.today,
+        asked.new,
+        asked.journal,
+        how,
+    ) {
+        Ok(false) => Ok(ExitCode::SUCCESS),
+        Ok(true) => Ok(ExitCode::from(DIFFERS)),
+        Err(undone) => over_both(rt, meter, is_verbose, undone),
+    }
+}
+
+/// What two seasons say of a set, its limits and its days.
+fn both_words(
+    rt: &HostRuntime,
+    from: &str,
+    to: &str,
+    is_verbose: bool,
+) -> Result<Result<(Words, Words), ExitCode>, AllocError> {
+    let from = match words_over(rt, &OVER, from, is_verbose)? {
+        Ok(words) => words,
+        Err(status) => return Ok(Err(status)),
+    };
+    let to = match words_over(rt, &OVER, to, is_verbose)? {
+        Ok(words) => words,
+        Err(status) => return Ok(Err(status)),
+    };
+    Ok(Ok((from, to)))
+}
+
+/// The status of a command over two seasons that was not done, of which a refusal is told while what the seasons say is there.
+fn over_both<'a>(
+    rt: &HostRuntime,
+    meter: &Meter,
+    is_verbose: bool,
+    undone: Undone<'_>,
+) -> Result<ExitCode, Undone<'a>> {
+    match undone {
+        Undone::Word(error) => Err(Undone::Word(error)),
+        Undone::Refused(refusal) => {
             meter.end(rt);
             Ok(refused(rt, is_verbose, &refusal))
         }
@@ -117,6 +182,45 @@ fn compared_over<'a, T: Threads + Sync>(
     let to = horizon_in(rt, to)?;
     question_commands::compare(rt, threads, meter, &from, &to, journal)?;
     Ok(())
+}
+
+/// How a carry is asked for.
+#[derive(Clone, Copy)]
+struct How {
+    displaces: bool,
+    fresh_limits: bool,
+    anew: bool,
+    dry_run: bool,
+}
+
+// The words of the job one by one: a job stands at one lifetime, and the words of the seasons live shorter.
+fn carried_over<'a, T: Threads + Sync>(
+    rt: &'a HostRuntime,
+    threads: &T,
+    meter: &'a Meter,
+    over_from: &'a [&'a str],
+    over_to: &'a [&'a str],
+    from: &'a str,
+    to: &'a str,
+    today: &'a str,
+    new: &'a str,
+    journal: &'a str,
+    how: How,
+) -> Result<bool, Undone<'a>> {
+    let over_from = horizon_in(rt, over_from)?;
+    let over_to = horizon_in(rt, over_to)?;
+    let job = CarryJob {
+        from,
+        to,
+        today,
+        new,
+        displaces: how.displaces,
+        fresh_limits: how.fresh_limits,
+        anew: how.anew,
+        dry_run: how.dry_run,
+        journal,
+    };
+    Ok(carry_commands::carry(rt, threads, meter, &job, &over_from, &over_to)?)
 }
 
 /// Over what the words of a command work that has nothing else.

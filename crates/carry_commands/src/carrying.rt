@@ -1,0 +1,287 @@
+//! `carry`: what is read, what is made, and what is written.
+ghost use Rattle.std.specs.Prelude.{◌≡◌, ◌≤◌, IsTrue, true};
+ghost use Rattle.seat_seal.specs.Fronts.{front_of};
+ghost use Rattle.seat_seal.specs.Imprints.{imprint_of};
+ghost use Rattle.seat_seal.specs.Reading.{two_entries};
+ghost use Rattle.seat_seal.specs.Rules.{is_seal, is_sealed};
+ghost use Rattle.seat_seal.specs.declared.seal.SealEntry.TheVariants.{Sealed as IsSealed};
+ghost use Rattle.ssim_flights.specs.Right.{IsOfCentury};
+
+use crate::inputs::{Seasons, made, seasons_of, unmade};
+use crate::placing::{Newer, Older, failed, newer_locked, older_locked, standing};
+use airline_base::put_all;
+use carry_plans::{Carriage, CarryAsked};
+use command_inputs::{day_of_run, days_of};
+use progress_meter::Meter;
+use seat_desk::DeskFault;
+use seat_files::{CarryKind, Output, Refusal, SealFile, Shown, TOO_LONG, metered_output, opened};
+use seat_handing::{Hand, HandFault, HandRefusal, hand_over, may_hand};
+use seat_seal::{Beside, SealEntry, is_sealed};
+use seat_sealing::{entry_beside, may_be_sealed};
+use seat_words::{CarryJob, Horizon};
+use std::thread::Threads;
+
+/// Carries the live bookings of a journal over the one season to the other, and writes the report. Where a leg has too few seats nothing is carried: the
+/// lines of such legs are written, and the answer says that there are any. The journal is locked from its reading to the end.
+pub fn carry<'a, R: Threads + Sync>(
+    rt: &'a HostRuntime,
+    threads: &R,
+    meter: &'a Meter,
+    asked: &CarryJob<'a>,
+    from: &Horizon<'a>,
+    to: &Horizon<'a>,
+) -> Result<bool, Refusal<'a>> {
+    let from_days = days_of(from.first, from.days)?;
+    let to_days = days_of(to.first, to.days)?;
+    let today = day_of_run(asked.today)?;
+    let asking = CarryAsked {
+        today,
+        displaces: asked.displaces,
+        fresh_limits: asked.fresh_limits,
+    };
+    let mut seasons = match seasons_of(rt, from, from_days, to, to_days) {
+        Ok(seasons) => seasons,
+        Err(refusal) => return Err(refusal),
+    };
+    if asked.dry_run {
+        return tried(rt, threads, meter, asked, &asking, &mut seasons);
+    }
+    let (older, text) = match older_locked(rt, asked, &seasons) {
+        Ok(locked) => locked,
+        Err(refusal) => return Err(refusal),
+    };
+    let mut older = older;
+    let outcome = carried(
+        rt,
+        threads,
+        meter,
+        asked,
+        &asking,
+        &mut seasons,
+        &mut older,
+        &text,
+    );
+    older.seal.leave();
+    outcome
+}
+
+/// What it would be, of which the report alone is written.
+fn tried<'a, R: Threads + Sync>(
+    rt: &'a HostRuntime,
+    threads: &R,
+    meter: &'a Meter,
+    asked: &CarryJob<'a>,
+    asking: &CarryAsked,
+    seasons: &mut Seasons<'a>,
+) -> Result<bool, Refusal<'a>>
+    requires from_first { IsOfCentury seasons.old.from.first }
+    requires from_days { (1 ≤ seasons.old.from.days) × (seasons.old.from.days ≤ 366) }
+    requires to_first { IsOfCentury seasons.old.to.first }
+    requires to_days { (1 ≤ seasons.old.to.days) × (seasons.old.to.days ≤ 366) }
+{
+    let mut journal = opened(rt, asked.journal)?;
+    let seal = SealFile::beside(rt, &journal, true)?;
+    let mut out = metered_output(rt, meter);
+    match made(
+        rt,
+        threads,
+        meter,
+        asking,
+        seasons,
+        &mut journal,
+        &seal.as_beside(),
+    ) {
+        Ok(carriage) => {
+            write(&mut out, carriage.report.as_slice())?;
+            Ok(false)
+        }
+        Err(fault) => {
+            let lines = unmade(fault, seasons, &journal, asked.new)?;
+            write(&mut out, lines.as_slice())?;
+            Ok(true)
+        }
+    }
+}
+
+/// The carry of a journal under its lock.
+fn carried<'a, R: Threads + Sync>(
+    rt: &'a HostRuntime,
+    threads: &R,
+    meter: &'a Meter,
+    asked: &CarryJob<'a>,
+    asking: &CarryAsked,
+    seasons: &mut Seasons<'a>,
+    older: &mut Older<'a>,
+    text: &Option<Vec<u8>>,
+) -> Result<bool, Refusal<'a>>
+    requires from_first { IsOfCentury seasons.old.from.first }
+    requires from_days { (1 ≤ seasons.old.from.days) × (seasons.old.from.days ≤ 366) }
+    requires to_first { IsOfCentury seasons.old.to.first }
+    requires to_days { (1 ≤ seasons.old.to.days) × (seasons.old.to.days ≤ 366) }
+{
+    let newer = match newer_locked(rt, asked, seasons, older) {
+        Ok(newer) => newer,
+        Err(refusal) => return Err(refusal),
+    };
+    let mut newer = newer;
+    let outcome = carried_to(
+        rt, threads, meter, asked, asking, seasons, older, text, &mut newer,
+    );
+    newer.leave();
+    outcome
+}
+
+/// The same with the new journal under its lock.
+fn carried_to<'a, R: Threads + Sync>(
+    rt: &'a HostRuntime,
+    threads: &R,
+    meter: &'a Meter,
+    asked: &CarryJob<'a>,
+    asking: &CarryAsked,
+    seasons: &mut Seasons<'a>,
+    older: &mut Older<'a>,
+    text: &Option<Vec<u8>>,
+    newer: &mut Newer<'a>,
+) -> Result<bool, Refusal<'a>>
+    requires from_first { IsOfCentury seasons.old.from.first }
+    requires from_days { (1 ≤ seasons.old.from.days) × (seasons.old.from.days ≤ 366) }
+    requires to_first { IsOfCentury seasons.old.to.first }
+    requires to_days { (1 ≤ seasons.old.to.days) × (seasons.old.to.days ≤ 366) }
+{
+    let mut out = metered_output(rt, meter);
+    let attempt = made(
+        rt,
+        threads,
+        meter,
+        asking,
+        seasons,
+        &mut older.journal,
+        &beside_of(text),
+    );
+    match attempt {
+        Ok(carriage) => {
+            handed(rt, asked, carriage, older, text, newer, &mut out)?;
+            Ok(false)
+        }
+        Err(fault) => {
+            let lines = unmade(fault, seasons, &older.journal, asked.new)?;
+            write(&mut out, lines.as_slice())?;
+            Ok(true)
+        }
+    }
+}
+
+/// What stands beside the journal, where a seal must.
+fn beside_of(text: &Option<Vec<u8>>) -> Beside<'_> {
+    let text = match text {
+        Some(text) => Some(text.as_slice()),
+        None => None,
+    };
+    Beside {
+        text,
+        is_wanted: true,
+    }
+}
+
+/// Hands the journal's bookings over to the new one, where that may be written.
+fn handed<'a>(
+    rt: &HostRuntime,
+    asked: &CarryJob<'a>,
+    carriage: Carriage,
+    older: &mut Older<'a>,
+    text: &Option<Vec<u8>>,
+    newer: &mut Newer<'a>,
+    out: &mut Output<'a>,
+) -> Result<(), Refusal<'a>>
+    requires imprint { carriage.entry.journal.imprint ≡ imprint_of (front_of carriage.text) }
+{
+    let (there, stood) = standing(newer)?;
+    let before = entry_beside(slice_of(&stood), &there);
+    if !is_sealed(&carriage.known) || !may_be_sealed(&before, &carriage.entry) {
+        return Err(Refusal::barred(asked.new, TOO_LONG));
+    }
+    let hand = match may_hand(
+        &carriage.known,
+        &carriage.entry.journal.imprint,
+        Some(&there),
+        carriage.text.as_slice(),
+        asked.anew,
+    ) {
+        Ok(hand) => hand,
+        Err(HandRefusal::Unfinished) => {
+            return Err(Refusal::of_carry(CarryKind::Unfinished, asked.journal));
+        }
+        Err(HandRefusal::New) => return Err(Refusal::of_carry(CarryKind::New, asked.new)),
+    };
+    put(rt, asked, hand, carriage, before, older, text, newer, out)
+}
+
+fn slice_of(text: &Option<Vec<u8>>) -> Option<&[u8]> {
+    match text {
+        Some(text) => Some(text.as_slice()),
+        None => None,
+    }
+}
+
+fn bytes_of(text: &Option<Vec<u8>>) -> &[u8] {
+    match text {
+        Some(text) => text.as_slice(),
+        None => &[],
+    }
+}
+
+/// Writes the mark, the new journal with its seal, and the report.
+fn put<'a>(
+    rt: &HostRuntime,
+    asked: &CarryJob<'a>,
+    hand: Hand,
+    carriage: Carriage,
+    before: SealEntry,
+    older: &mut Older<'a>,
+    seal_text: &Option<Vec<u8>>,
+    newer: &mut Newer<'a>,
+    out: &mut Output<'a>,
+) -> Result<(), Refusal<'a>>
+    requires known { is_sealed carriage.known ≡ true }
+    requires rules { IsTrue (is_seal (two_entries before (IsSealed carriage.entry))) }
+    requires imprint { carriage.entry.journal.imprint ≡ imprint_of (front_of carriage.text) }
+{
+    let Carriage {
+        text,
+        entry,
+        report,
+        known,
+    } = carriage;
+    let outcome = hand_over(
+        hand,
+        known,
+        bytes_of(seal_text),
+        before,
+        entry,
+        text.as_slice(),
+        report.as_slice(),
+        &mut older.seal,
+        &mut newer.journal,
+        &mut newer.seal,
+        out,
+    );
+    match outcome {
+        Ok(()) => Ok(()),
+        Err(HandFault::TakenBack) => Err(failed(older, newer)),
+        Err(HandFault::Unfinished) => {
+            let file = Shown { name: asked.new };
+            let _ = eprintln!(rt;
+                "seatdesk: note: the bookings are on their way to {file}: the same carry is to be sent again"
+            );
+            Err(failed(older, newer))
+        }
+        Err(HandFault::Unsaid) => Err(Refusal::from(DeskFault::Device).noting_output(out)),
+    }
+}
+
+fn write<'a>(out: &mut Output<'a>, text: &[u8]) -> Result<(), Refusal<'a>> {
+    match put_all(out, text) {
+        Ok(()) => Ok(()),
+        Err(_) => Err(Refusal::from(DeskFault::Device).noting_output(out)),
+    }
+}

@@ -1,0 +1,104 @@
+//! The two journals of a carry and their seals, each under its lock.
+//! It knows which of them is locked first, and what goes where nothing is carried.
+use crate::inputs::Seasons;
+use seat_desk::DeskFault;
+use seat_files::{Guard, Input, JournalFile, Refusal, SealOut, files_taken};
+use seat_words::CarryJob;
+
+/// Why a new journal that is a pipe or a device is refused: it can't be written once more where a carry did not end.
+const NO_FILE: &str = "Is no regular file";
+
+/// The journal whose bookings are carried, under its lock: its seal, and what it has.
+#[derive(Drop)]
+pub(crate) struct Older<'a> {
+    pub seal: SealOut<'a>,
+    pub journal: Input<'a>,
+}
+
+/// Locks the journal whose bookings are carried, and reads its seal. It must be a regular file, and no run's or host's.
+pub(crate) fn older_locked<'a>(
+    rt: &'a HostRuntime,
+    asked: &CarryJob<'a>,
+    seasons: &Seasons<'a>,
+) -> Result<(Older<'a>, Option<Vec<u8>>), Refusal<'a>> {
+    let files = files_taken(
+        rt,
+        &seasons.from,
+        &[],
+        &[&seasons.to.set, &seasons.to.limits],
+    )?;
+    let (seal, journal) = SealOut::open(rt, asked.journal, files.as_slice())?;
+    match seal.text() {
+        Ok(text) => Ok((Older { seal, journal }, text)),
+        Err(refusal) => {
+            seal.leave();
+            Err(refusal)
+        }
+    }
+}
+
+/// The new journal under its lock, and its seal.
+#[derive(Drop)]
+pub(crate) struct Newer<'a> {
+    pub journal: JournalFile<'a>,
+    pub seal: SealOut<'a>,
+}
+
+impl<'a> Newer<'a> {
+    /// Takes away what was made and is not to stay. A seal that was put ahead of its journal goes first, while the journal is locked.
+    pub fn leave(&self) {
+        if self.journal.is_to_go() {
+            self.seal.take_away();
+        }
+        self.seal.leave();
+        self.journal.leave();
+    }
+}
+
+/// Locks the new journal, and makes it where it is not there. It is none of the inputs, nor the older journal, nor the file of the report.
+pub(crate) fn newer_locked<'a>(
+    rt: &'a HostRuntime,
+    asked: &CarryJob<'a>,
+    seasons: &Seasons<'a>,
+    older: &Older<'a>,
+) -> Result<Newer<'a>, Refusal<'a>> {
+    let guard = Guard::new(rt, asked.new)?;
+    guard.pass(
+        &seasons.from,
+        &[],
+        &[&seasons.to.set, &seasons.to.limits, &older.journal],
+    )?;
+    guard.pass_output(rt)?;
+    let files = files_taken(
+        rt,
+        &seasons.from,
+        &[],
+        &[&seasons.to.set, &seasons.to.limits, &older.journal],
+    )?;
+    let journal = JournalFile::open(rt, asked.new, files.as_slice())?;
+    if journal.path().is_none() {
+        return Err(Refusal::barred(asked.new, NO_FILE));
+    }
+    match SealOut::beside(rt, &journal, files.as_slice()) {
+        Ok(seal) => Ok(Newer { journal, seal }),
+        Err(refusal) => {
+            journal.leave();
+            Err(refusal)
+        }
+    }
+}
+
+/// The bytes that stand under the new journal's name, and what stands beside it.
+pub(crate) fn standing<'a>(newer: &Newer<'a>) -> Result<(Vec<u8>, Option<Vec<u8>>), Refusal<'a>> {
+    let bytes = newer.journal.bytes()?;
+    let text = newer.seal.text()?;
+    Ok((bytes, text))
+}
+
+/// Whose failure it was.
+pub(crate) fn failed<'a>(older: &Older<'a>, newer: &Newer<'a>) -> Refusal<'a> {
+    Refusal::from(DeskFault::Device)
+        .noting_journal(&newer.journal)
+        .noting_seal(&newer.seal)
+        .noting_seal(&older.seal)
+}
