@@ -13,11 +13,12 @@ bash = $(DATADIR)/bash-completion/completions/seatdesk
 zsh = $(DATADIR)/zsh/site-functions/_seatdesk
 fish = $(DATADIR)/fish/vendor_completions.d/seatdesk.fish
 
-.PHONY: help check test fmt install uninstall
+.PHONY: help check test cluster-test fmt install uninstall
 
 help:
 	@echo 'make check       proves what changed since it was last proved'
 	@echo 'make test        the test command, .ci/run: every proof from nothing, and every test'
+	@echo 'make cluster-test  eight desks over four shards on a log of three nodes, and twenty kills: docs/CLUSTER.md'
 	@echo 'make fmt         formats the sources of each crate that crates.txt names'
 	@echo 'make install     the built program, its man page and its completions, below PREFIX ($(PREFIX))'
 	@echo 'make uninstall   takes them away again, with the folders below PREFIX that are then empty'
@@ -28,6 +29,11 @@ check:
 
 test:
 	.ci/run
+
+# (Debian's packages; who may not install them finds them there)
+cluster-test:
+	@dpkg -s rabbitmq-server python3-pika >/dev/null 2>&1 || RUNLEVEL=1 apt-get install -y --no-install-recommends rabbitmq-server python3-pika
+	tests/cluster
 
 fmt:
 	@for it in $$(sed -n 's/^\([a-z_]*\)[^:#]*:.*/\1/p' crates.txt); do \

@@ -1,0 +1,143 @@
+#!/usr/bin/python3
+"""The host of one shard, behind the log: it feeds the shard's stream to `seatdesk serve --feed -`, and puts what the host tells into the stream of replies.
+
+    examples/cluster/shard.py LOG SHARD FOLDER [NODE..] -- COMMAND WORD..
+
+LOG is the name of its log. COMMAND is what starts the host, as `seatdesk serve --set .. --limits .. --first .. --days .. --journal FOLDER/journal.txt`; `--feed -` is put behind it. FOLDER is this
+consumer's own. Start two of them, on two machines: the second waits until the first is gone, and then begins at the place that its own FOLDER has, or at the stream's
+first message. The journal is a function of the stream, so it is the same wherever it is made, and two hosts at once would tell the same.
+
+A message of the stream is one or more whole messages of desks behind the day on which they are read (`?DAY`). So each is a place to begin at, and its first answer, the
+manager's READY, says that all ahead of it was told. FOLDER/place has such a place, the largest number of a line that was told ahead of it, and the day that held.
+"""
+import os
+import queue
+import subprocess
+import sys
+import threading
+import time
+
+from streams import LOST, NODES, Writer, closed, follow, turn
+
+SECONDS = 1.0  # between two places that are kept
+
+
+class Place:
+    """Where the stream is read from behind a start."""
+
+    def __init__(self, folder):
+        self.file, self.kept = f"{folder}/place", 0.0
+        try:
+            with open(self.file, encoding="ascii") as it:
+                at, lines, self.day = it.read().split()
+            self.at, self.lines = int(at), int(lines)
+        except (OSError, ValueError):
+            self.begin()
+
+    def begin(self):
+        self.at, self.lines, self.day = 0, 0, ""
+
+    def keep(self, at, lines, day):
+        self.at, self.lines, self.day = at, lines, day
+        if time.monotonic() - self.kept >= SECONDS:
+            with open(f"{self.file}.new", "w", encoding="ascii") as it:
+                it.write(f"{at} {lines} {day}\n")
+                it.flush()
+                os.fsync(it.fileno())
+            os.rename(f"{self.file}.new", self.file)
+            self.kept = time.monotonic()
+
+
+class Host:
+    """A host from a place on, until it ends or the turn is lost."""
+
+    def __init__(self, nodes, log, shard, place, command):
+        self.nodes, self.log, self.shard, self.place = nodes, log, shard, place
+        self.heads = queue.SimpleQueue()  # the messages that the host was sent, in order
+        self.turn = turn(nodes, f"{log}-turn-{shard}")
+        self.said = open(f"{place.file}.said", "w+b")
+        words = [*command, "--feed", "-", "--behind", str(place.lines)]
+        self.process = subprocess.Popen(words, stdin=subprocess.PIPE, stdout=subprocess.PIPE, stderr=self.said, bufsize=0)
+        self.works = [threading.Thread(target=work, daemon=True) for work in (self.feed, self.hold)]
+        for work in self.works:
+            work.start()
+
+    def feed(self):
+        """Sends the host each message from the place on."""
+        try:
+            if self.place.day:
+                self.send(None, None, f"?DAY {self.place.day}\n".encode())
+            for message in follow(self.nodes, f"{self.log}-lines-{self.shard}", self.place.at):
+                if message:
+                    self.send(*message)
+                if self.process.poll() is not None:
+                    return
+        except (BrokenPipeError, ValueError):
+            return  # the host is gone, and who reads it sees that
+
+    def send(self, at, of, text):
+        self.heads.put((at, of))
+        while text:
+            text = text[self.process.stdin.write(text) :]
+
+    def hold(self):
+        """Ends the host once somebody else may have its turn."""
+        try:
+            while self.process.poll() is None:
+                self.turn.process_data_events(1)
+        except LOST:
+            self.process.stdin.close()
+
+    def tell(self):
+        """Puts what the host tells of each message into the replies, and keeps the places behind which all is there."""
+        replies, told, of, most, rest = Writer(self.nodes, f"{self.log}-replies-{self.shard}"), b"", None, self.place.lines, b""
+        while piece := os.read(self.process.stdout.fileno(), 1 << 18):
+            *lines, rest = (rest + piece).split(b"\n")
+            for line in lines:
+                words = line.split(b" ")
+                if words[1] == b"READY":
+                    if told:
+                        replies.put(told, of)
+                    (at, of), told = self.heads.get(), b""
+                    if at is not None:
+                        self.place.keep(at, most, words[5].decode())
+                else:
+                    told += line + b"\n"
+                    if words[1] != b"FAULT":
+                        most = max(most, int(words[2]))
+            if told:
+                replies.put(told, of)
+                told = b""
+
+    def end(self):
+        """What the host ended with, and what it said then."""
+        status = self.process.wait()
+        for work in self.works:
+            work.join()
+        closed(self.turn)
+        self.said.seek(0)
+        return status, self.said.read().decode().strip()
+
+
+def main(words):
+    if "--" not in words or words.index("--") < 3:
+        sys.exit(__doc__)
+    ends = words.index("--")
+    (log, shard, folder), nodes, command = words[:3], words[3:ends] or NODES, words[ends + 1 :]
+    os.makedirs(folder, exist_ok=True)
+    place = Place(folder)
+    while True:
+        host = Host(nodes, log, shard, place, command)
+        host.tell()
+        status, said = host.end()
+        if "E2 behind" in said:
+            place.begin()  # an older copy of the journal has not come to the place
+        elif status == 1:
+            sys.exit(f"shard {shard}: {said}")  # a line of the stream is not the journal's own: it is another shard's
+        elif status > 0:
+            print(f"shard {shard}: {said}", file=sys.stderr)
+            time.sleep(1)  # another host has the journal still, or its disk failed
+
+
+if __name__ == "__main__":
+    main(sys.argv[1:])
