@@ -9,7 +9,7 @@ use airline_base::{Memory, Place};
 use seat_host::{BookFault, Host, Hosting, Parts, Receipt, Settled, gather};
 use seat_journal::{Change, Command, CommandList, Control, SaleChange, Work};
 use seat_nesting::Grid;
-use seat_workers::{Gate, RunFault, run_sessions};
+use seat_workers::{Gate, RunFault, first_fault, no_faults, run_sessions};
 use std::alloc::Global;
 use std::marker::Brand;
 use std::process::Abort;
@@ -284,18 +284,19 @@ fn run<K: Hosting + Send + Sync, R: Threads + Wait + Sync, G: Gate>(
     changes: &[Control],
     lists: &[CommandList],
     gate: &G,
-) -> Option<(Result<(), RunFault>, Settled)>
+) -> Option<([Option<RunFault>; 9], Settled)>
     requires parts { (parts.grid ≡ K.grid) × (parts.cap ≡ K.cap) × (parts.book ≡ K.book) × (parts.sessions ≡ K.sessions)
         × (parts.names ≡ K.names) }
     requires changes { All (λ change. FitsControl parts.grid change) changes.now }
     requires lists { All (λ list. All (λ command. FitsCommand parts.grid command) list) lists.now }
 {
     let (host, mut manager, mut sessions) = Host::<K>::open(rt, alloc, parts).ok()?;
-    if sessions.len() != lists.len() {
+    if sessions.len() != lists.len() || lists.len() > 8 {
         host.end(rt);
         return None;
     }
-    let answer = run_sessions(
+    let mut faults = no_faults();
+    run_sessions(
         rt,
         alloc,
         &host,
@@ -304,9 +305,10 @@ fn run<K: Hosting + Send + Sync, R: Threads + Wait + Sync, G: Gate>(
         sessions.as_mut_slice(),
         lists,
         gate,
+        &mut faults[..lists.len() + 1],
     );
     match gather(rt, alloc, host, manager, sessions) {
-        Ok(settled) => Some((answer, settled)),
+        Ok(settled) => Some((faults, settled)),
         Err((_, unsettled, _, _)) => {
             unsettled.into_host().end(rt);
             None
@@ -330,7 +332,7 @@ fn follow<R: Threads + Wait + Clock + Abort + Sync>(
     let sessions = u8::try_from(row.lists.len()).ok()?;
     let parts = Parts::new(rt, alloc, grid, sessions, row.cap.clamp(1, 999_999)).ok()?;
     let meeting = Meeting::new(rt, row.holds);
-    let (answer, settled) = run::<Brand, R, Meeting<'_, R>>(
+    let (faults, settled) = run::<Brand, R, Meeting<'_, R>>(
         rt, alloc, parts, &changes, &lists, &meeting,
     )?;
     assert!(rt;
@@ -338,16 +340,17 @@ fn follow<R: Threads + Wait + Clock + Abort + Sync>(
         "{}: a session was held for too long",
         row.shows
     );
-    compare_named(rt, answer, row);
+    compare_named(rt, first_fault(&faults), row);
+    compare_ends(rt, &faults, row);
     compare_passes(rt, &meeting, row);
     compare(rt, &lists, &settled, row)
 }
 
 /// Compares the call that the run names. The journal is full there.
-fn compare_named(rt: &impl Abort, answer: Result<(), RunFault>, row: &Row) {
-    let named = match answer {
-        Ok(()) => (0, 0),
-        Err(fault) => {
+fn compare_named(rt: &impl Abort, first: Option<&RunFault>, row: &Row) {
+    let named = match first {
+        None => (0, 0),
+        Some(fault) => {
             let refusal = &fault.refusal;
             assert!(rt;
                 refusal.fault == BookFault::JournalFull,
@@ -363,6 +366,25 @@ fn compare_named(rt: &impl Abort, answer: Result<(), RunFault>, row: &Row) {
         }
     };
     assert!(rt; named == row.named, "{}: the call that is named", row.shows);
+}
+
+/// A worker has a fault at its place where it was refused, so where it has fewer receipts than it was to make calls.
+fn compare_ends(rt: &impl Abort, faults: &[Option<RunFault>], row: &Row) {
+    let Some((manager, others)) = faults.split_first() else {
+        return;
+    };
+    assert!(rt;
+        manager.is_some() == (row.managed < row.changes),
+        "{}: how the manager ended",
+        row.shows
+    );
+    for (fault, (receipts, list)) in others.iter().zip(row.receipts.iter().zip(row.lists.iter())) {
+        assert!(rt;
+            fault.is_some() == (receipts < list),
+            "{}: how a session ended",
+            row.shows
+        );
+    }
 }
 
 /// The gate was passed before and after each call: as often as there are receipts, and once more by a worker that was

@@ -119,7 +119,7 @@ of_journal grid cap n most count journal receipts totals cap_is count_is h =
     let capped = subst (λ (c : ℕ). Headline grid c n journal receipts (totals_of journal)) cap_is summed in
     subst (λ (k : ℕ). Headline grid most k journal receipts (totals_of journal)) count_is capped
 
-works_count : (changes : List Control) (lists : List (List Command))
+pub works_count : (changes : List Control) (lists : List (List Command))
     → length (works_of changes lists) ≡ suc (length lists)
 works_count changes lists = ap suc (length-map lists (λ (list : List Command). map Seats list))
 

@@ -1,7 +1,6 @@
 -- Runs of one session, and of several.
-use Rattle.std.proofs.Common.{◌≡◌, ℕ, zero, suc, ◌+◌, ◌<◌, ◌≤◌, List, [], ◌∷◌, ◌++◌, length, take, drop, get_or, refl, ap, sym, subst, arith, ◌∙◌, append_assoc}
-use Rattle.std.specs.Prelude.{Result, Ok, Err, OnOk, All, map}
-use Rattle.core.specs.Result.{result_and}
+use Rattle.std.proofs.Common.{◌≡◌, ℕ, zero, suc, ◌+◌, ◌<◌, ◌≤◌, List, [], ◌∷◌, ◌++◌, length, take, drop, get_or, inl, inr, refl, ap, sym, subst, arith, ◌∙◌, append_assoc}
+use Rattle.std.specs.Prelude.{All, Option, Some, None, map}
 use Rattle.std.proofs.Math.Seq.{split_at}
 use Rattle.std.proofs.lemmas.List.{get_or-map, length-map, map_more, take-append-drop}
 use Rattle.seat_journal.specs.declared.entry.Control.{Control}
@@ -14,10 +13,11 @@ use Rattle.seat_journal.specs.declared.entry.Entry.{Entry}
 use Rattle.logbook.specs.Pages.{Book}
 use Rattle.seat_nesting.specs.Nesting.{Ladders}
 use Rattle.seat_rules.specs.Journal.{FitsCommand, FitsControl, MayAsk}
+use Rattle.seat_rules.specs.Histories.{seats_in}
 use Rattle.seat_rules.proofs.History.Prefixes.{begins_trans, begins_itself}
 use Rattle.seat_host.specs.Refusing.{IsDue}
 use Rattle.seat_host.specs.Sessions.{Seat}
-use Rattle.seat_workers.specs.Working.{Asks, HasRun, HasBegun, IsRefused, AllHaveRun, AllHaveBegun}
+use Rattle.seat_workers.specs.Working.{Asks, HasRun, HasBegun, IsRefused, AllHaveRun, AllHaveBegun, AllHaveEnded, NamesFirst, first_of}
 use Rattle.seat_host.specs.declared.under_lock.BookFault.TheVariants.{JournalFull}
 use Rattle.seat_workers.specs.declared.workers.RunFault.{RunFault}
 
@@ -120,14 +120,55 @@ pub begun_refused : (grid : Ladders) (book : Book) (cap : ℕ) (fault : RunFault
     → IsRefused grid book cap fault list s t → HasBegun list s t
 begun_refused grid book cap fault list s t p = record { booked = p.booked; begins = record { rest = p.refused ∷ p.left; is = p.parts }; run = p.run }
 
-pub all_begun : (lists : List (List Work)) (olds news : List Seat) → AllHaveRun lists olds news
-    → AllHaveBegun lists olds news
-all_begun [] olds [] p = p
-all_begun [] olds (t ∷ news) p = p
-all_begun (l ∷ lists) [] [] p = p
-all_begun (l ∷ lists) [] (t ∷ news) p = p
-all_begun (l ∷ lists) (s ∷ olds) [] p = p
-all_begun (l ∷ lists) (s ∷ olds) (t ∷ news) p = (begun_run l s t p.0, all_begun lists olds news p.1)
+-- where there is no list nothing has ended
+pub ended_none : (grid : Ladders) (book : Book) (cap : ℕ) (lists : List (List Command)) (olds news : List Seat)
+    (ends : List (Option RunFault)) → length lists ≡ 0 → length lists ≡ length news
+    → AllHaveEnded grid book cap (seats_in lists) olds news ends
+ended_none grid book cap [] olds [] ends none same = tt
+ended_none grid book cap [] olds (t ∷ news) ends none same = absurd (omega (arith, same))
+ended_none grid book cap (list ∷ lists) olds news ends none same = absurd (omega (arith, none))
+
+-- ---- what has ended
+
+-- where there is no fault each list was booked whole
+pub ended_run : (grid : Ladders) (book : Book) (cap : ℕ) (lists : List (List Work)) (olds news : List Seat)
+    (ends : List (Option RunFault)) → AllHaveEnded grid book cap lists olds news ends → first_of ends ≡ None
+    → AllHaveRun lists olds news
+ended_run grid book cap [] olds [] ends h none = h
+ended_run grid book cap [] olds (t ∷ news) ends h none = absurd h
+ended_run grid book cap (l ∷ lists) [] news ends h none = absurd h
+ended_run grid book cap (l ∷ lists) (s ∷ olds) [] ends h none = absurd h
+ended_run grid book cap (l ∷ lists) (s ∷ olds) (t ∷ news) [] h none = absurd h
+ended_run grid book cap (l ∷ lists) (s ∷ olds) (t ∷ news) (None ∷ ends) h none =
+    (h.0, ended_run grid book cap lists olds news ends h.1 none)
+ended_run grid book cap (l ∷ lists) (s ∷ olds) (t ∷ news) (Some fault ∷ ends) h none = absurd cc
+
+-- a beginning of each was booked in any case
+pub ended_begun : (grid : Ladders) (book : Book) (cap : ℕ) (lists : List (List Work)) (olds news : List Seat)
+    (ends : List (Option RunFault)) → AllHaveEnded grid book cap lists olds news ends → AllHaveBegun lists olds news
+ended_begun grid book cap [] olds [] ends h = h
+ended_begun grid book cap [] olds (t ∷ news) ends h = absurd h
+ended_begun grid book cap (l ∷ lists) [] news ends h = absurd h
+ended_begun grid book cap (l ∷ lists) (s ∷ olds) [] ends h = absurd h
+ended_begun grid book cap (l ∷ lists) (s ∷ olds) (t ∷ news) [] h = absurd h
+ended_begun grid book cap (l ∷ lists) (s ∷ olds) (t ∷ news) (None ∷ ends) h =
+    (begun_run l s t h.0, ended_begun grid book cap lists olds news ends h.1)
+ended_begun grid book cap (l ∷ lists) (s ∷ olds) (t ∷ news) (Some fault ∷ ends) h =
+    (begun_refused grid book cap fault l s t h.0, ended_begun grid book cap lists olds news ends h.1)
+
+-- the first fault is that of the first that was refused
+pub ended_first : (grid : Ladders) (book : Book) (cap : ℕ) (fault : RunFault) (lists : List (List Work))
+    (olds news : List Seat) (ends : List (Option RunFault)) → AllHaveEnded grid book cap lists olds news ends
+    → first_of ends ≡ Some fault → length lists ≡ length ends → NamesFirst grid book cap fault lists olds news
+ended_first grid book cap fault [] olds news [] h is same = absurd cc
+ended_first grid book cap fault [] olds news (end ∷ ends) h is same = absurd (omega (arith, same))
+ended_first grid book cap fault (l ∷ lists) [] news ends h is same = absurd h
+ended_first grid book cap fault (l ∷ lists) (s ∷ olds) [] ends h is same = absurd h
+ended_first grid book cap fault (l ∷ lists) (s ∷ olds) (t ∷ news) [] h is same = absurd h
+ended_first grid book cap fault (l ∷ lists) (s ∷ olds) (t ∷ news) (None ∷ ends) h is same =
+    inr (h.0, ended_first grid book cap fault lists olds news ends h.1 is (omega (arith, same)))
+ended_first grid book cap fault (l ∷ lists) (s ∷ olds) (t ∷ news) (Some first ∷ ends) h is same =
+    inl (subst (λ (f : RunFault). IsRefused grid book cap f l s t) (cc is) h.0)
 
 -- a list booked as far as a place, and then the work there
 pub run_at : {A : Type 0} (f : A → Work) (list : List A) (i : ℕ) (x : A) (work : Work) (s t u : Seat) → i < length list
@@ -147,19 +188,6 @@ refused_at f grid book cap fault list i x work s t u below is asked p q =
     let parts : map f list ≡ map f (take i list) ++ work ∷ map f (drop (suc i) list) =
     ap (map f) cut ∙ map_append f (take i list) (x ∷ drop (suc i) list) ∙ ap (λ w. map f (take i list) ++ w ∷ map f (drop (suc i) list)) (sym asked) in
     subst (λ l. IsRefused grid book cap fault l s u) (sym parts) (refused_more grid book cap fault (map f (take i list)) (work ∷ []) (map f (drop (suc i) list)) s t u p q)
-
--- the run of the first session beside the run of the others
-pub run_both : (l : List Work) (s t : Seat) (ls : List (List Work)) (ss ts : List Seat)
-    (first rest both : Result (Unit {0}) RunFault)
-    → both ≡ result_and first rest → OnOk first (HasRun l s t) → OnOk rest (AllHaveRun ls ss ts)
-    → OnOk both (AllHaveRun (l ∷ ls) (s ∷ ss) (t ∷ ts))
-run_both l s t ls ss ts first rest both is p q = subst (λ r. OnOk r (AllHaveRun (l ∷ ls) (s ∷ ss) (t ∷ ts))) (sym is) (ok first rest p q)
-  where
-    ok : (first rest : Result (Unit {0}) RunFault) → OnOk first (HasRun l s t) → OnOk rest (AllHaveRun ls ss ts)
-        → OnOk (result_and first rest) (AllHaveRun (l ∷ ls) (s ∷ ss) (t ∷ ts))
-    ok (Ok a) (Ok b) p q = (p, q)
-    ok (Ok a) (Err f) p q = tt
-    ok (Err f) rest p q = tt
 
 -- and of what stands in front
 pub all_front : {A : Type 0} (P : A → Type 0) (all xs ys : List A) → all ≡ xs ++ ys → All P all → All P xs

@@ -1,5 +1,5 @@
 -- What a run of sessions leaves.
-use Rattle.std.specs.Prelude.{◌≡◌, ◌⊎◌, ℕ, ◌+◌, ◌≤◌, List, [], ◌∷◌, ◌++◌, length, zip}
+use Rattle.std.specs.Prelude.{◌≡◌, ◌⊎◌, ℕ, ◌+◌, ◌≤◌, List, [], ◌∷◌, ◌++◌, Option, Some, None, length, zip, ⊤}
 use Rattle.std.specs.List.{AllZip}
 use Rattle.seat_journal.specs.declared.entry.Work.{Work}
 use Rattle.seat_journal.specs.declared.entry.Entry.{Entry}
@@ -45,6 +45,27 @@ pub record IsRefused (grid : Ladders) (book : Book) (cap : ℕ) (fault : RunFaul
   pub call : fault.call ≡ length t.receipts + 1
   pub full : fault.refusal.fault ≡ JournalFull → cap ≤ length t.front
   pub due : IsDue grid book cap t.front fault.refusal
+
+-- how the worker of a list ended: it booked its whole list, or its fault says at which call it was refused
+abbrev pub HasEnded : Ladders → Book → ℕ → List Work → Seat → Seat → Option RunFault → Type 0
+HasEnded grid book cap list s t None = HasRun list s t
+HasEnded grid book cap list s t (Some fault) = IsRefused grid book cap fault list s t
+
+-- each session has ended so, with its fault at its place
+abbrev pub AllHaveEnded : Ladders → Book → ℕ → List (List Work) → List Seat → List Seat → List (Option RunFault) → Type 0
+AllHaveEnded grid book cap (list ∷ lists) (s ∷ olds) (t ∷ news) (end ∷ ends) =
+    HasEnded grid book cap list s t end × AllHaveEnded grid book cap lists olds news ends
+AllHaveEnded grid book cap (list ∷ lists) (s ∷ olds) (t ∷ news) [] = ⊥
+AllHaveEnded grid book cap (list ∷ lists) (s ∷ olds) [] ends = ⊥
+AllHaveEnded grid book cap (list ∷ lists) [] news ends = ⊥
+AllHaveEnded grid book cap [] olds [] ends = ⊤
+AllHaveEnded grid book cap [] olds (t ∷ news) ends = ⊥
+
+-- the first fault
+abbrev pub first_of : List (Option RunFault) → Option RunFault
+first_of [] = None
+first_of (None ∷ ends) = first_of ends
+first_of (Some fault ∷ ends) = Some fault
 
 -- each session booked its whole list
 abbrev pub AllHaveRun : List (List Work) → List Seat → List Seat → Type 0

@@ -9,4 +9,4 @@ mod workers;
 
 pub use gate::{Gate, NoGate};
 pub use turns::{Turn, Turns};
-pub use workers::{RunFault, run_sessions};
+pub use workers::{RunFault, first_fault, no_faults, run_sessions};

@@ -1,12 +1,12 @@
 //! Workers: one for the manager and one for each session, each with a list of its own.
-ghost use Rattle.std.specs.Prelude.{◌≡◌, ◌+◌, ◌<◌, ◌≤◌, [], ◌∷◌, All, length, map, IfErr, OnOk};
+ghost use Rattle.std.specs.Prelude.{◌≡◌, ◌+◌, ◌<◌, ◌≤◌, [], ◌∷◌, All, length, map, Some, None, IfErr, IfNone, IfSome, OnOk};
 ghost use Rattle.std.specs.Thread.{IsSync, IsSend};
 ghost use Rattle.seat_rules.specs.Journal.{FitsCommand, FitsControl};
 ghost use Rattle.seat_journal.specs.Controls.{set_by};
 ghost use Rattle.seat_journal.specs.declared.entry.Work.TheVariants.{Seats};
 ghost use Rattle.seat_host.specs.declared.under_lock.BookFault.TheVariants.{JournalFull};
 ghost use Rattle.seat_host.specs.Refusing.{IsDue};
-ghost use Rattle.seat_workers.specs.Working.{Asks, HasRun, IsRefused, AllHaveRun, AllHaveBegun, NamesFirst};
+ghost use Rattle.seat_workers.specs.Working.{Asks, HasRun, HasEnded, IsRefused, AllHaveEnded, first_of};
 ghost use Rattle.seat_rules.specs.Histories.{seats_in, works_of};
 
 use crate::asking::Asking;
@@ -18,7 +18,7 @@ use std::alloc::Global;
 use std::sync::Wait;
 use std::thread::{Threads, join_mut};
 
-/// Why a run stopped short: the session, which is 0 for the manager, and the call that gave no line.
+/// Why a worker stopped short: its session, which is 0 for the manager, and the call that gave no line.
 #[derive(Drop)]
 pub struct RunFault {
     pub session: u8,
@@ -29,8 +29,28 @@ pub struct RunFault {
 // The least calls of a turn.
 const SHORTEST: usize = 8;
 
+/// Places for the faults of a manager and eight sessions, with none yet.
+pub fn no_faults() -> [Option<RunFault>; 9]
+    ensures { first_of result ≡ None }
+{
+    [None, None, None, None, None, None, None, None, None]
+}
+
+/// The fault of the first worker that was refused.
+pub fn first_fault(faults: &[Option<RunFault>]) -> Option<&RunFault>
+    ensures found { IfSome result (λ fault. first_of faults.now ≡ Some fault.now) }
+    ensures none { IfNone result (first_of faults.now ≡ None) }
+{
+    let (first, later) = faults.split_first()?;
+    match first {
+        Some(fault) => Some(fault),
+        None => first_fault(later),
+    }
+}
+
 /// Has the manager make its changes in order and each session book its list, each on a worker of its own. A worker whose
-/// call is refused stops there, and the others finish.
+/// call is refused stops there, and puts its fault at its place of `faults`, the manager's ahead of the sessions'. Nobody
+/// else stops for it: the place of a worker that made all that it was to make has no fault.
 pub fn run_sessions<K: Hosting + Send + Sync, R: Threads + Wait + Sync, G: Gate>(
     rt: &R,
     alloc: Global,
@@ -40,17 +60,18 @@ pub fn run_sessions<K: Hosting + Send + Sync, R: Threads + Wait + Sync, G: Gate>
     sessions: &mut [Session<K>],
     lists: &[CommandList],
     gate: &G,
-) -> Result<(), RunFault>
+    faults: &mut [Option<RunFault>],
+)
     requires changes { All (λ change. FitsControl K.grid change) changes.now }
     requires lists { length lists.now ≡ length sessions.old }
     requires commands { All (λ list. All (λ command. FitsCommand K.grid command) list) lists.now }
-    ensures ok { OnOk result (AllHaveRun (works_of changes.now lists.now) (manager.old ∷ sessions.old)
-        (manager.new ∷ sessions.new)) }
-    ensures refused { IfErr result (λ _. AllHaveBegun (works_of changes.now lists.now) (manager.old ∷ sessions.old)
-        (manager.new ∷ sessions.new)) }
-    ensures named { IfErr result (λ f. NamesFirst K.grid K.book K.cap f (works_of changes.now lists.now)
-        (manager.old ∷ sessions.old) (manager.new ∷ sessions.new)) }
+    requires places { length faults.old ≡ length lists.now + 1 }
+    ensures ended { AllHaveEnded K.grid K.book K.cap (works_of changes.now lists.now) (manager.old ∷ sessions.old)
+        (manager.new ∷ sessions.new) faults.new }
 {
+    let Some((fault, others)) = faults.split_first_mut() else {
+        return;
+    };
     let turns = Turns::new(lists.len().saturating_add(1));
     let place = Workplace {
         rt,
@@ -59,7 +80,15 @@ pub fn run_sessions<K: Hosting + Send + Sync, R: Threads + Wait + Sync, G: Gate>
         gate,
         turns: &turns,
     };
-    with_manager(&place, changes, &mut manager.party, lists, sessions)
+    with_manager(
+        &place,
+        changes,
+        &mut manager.party,
+        fault,
+        lists,
+        sessions,
+        others,
+    );
 }
 
 // What a worker works with.
@@ -73,106 +102,106 @@ struct Workplace<'a, K: Hosting, R, G> {
 }
 
 // The manager's worker in this thread, and the sessions' beside it.
-#[tactic(auto, using(crate::proofs::Working::asks_limits, crate::proofs::Working::begun_run, crate::proofs::Working::begun_refused, crate::proofs::Working::all_begun, crate::proofs::Working::run_both))]
 fn with_manager<K: Hosting + Send + Sync, R: Threads + Wait + Sync, G: Gate>(
     place: &Workplace<'_, K, R, G>,
     changes: &[Control],
     party: &mut Party<K>,
+    fault: &mut Option<RunFault>,
     lists: &[CommandList],
     sessions: &mut [Session<K>],
-) -> Result<(), RunFault>
+    faults: &mut [Option<RunFault>],
+)
     requires manager { party.old.id ≡ 0 }
     requires changes { All (λ change. FitsControl K.grid change) changes.now }
     requires lists { length lists.now ≡ length sessions.old }
     requires commands { All (λ list. All (λ command. FitsCommand K.grid command) list) lists.now }
-    ensures ok { OnOk result (AllHaveRun (works_of changes.now lists.now) (party.old ∷ sessions.old)
-        (party.new ∷ sessions.new)) }
-    ensures refused { IfErr result (λ _. AllHaveBegun (works_of changes.now lists.now) (party.old ∷ sessions.old)
-        (party.new ∷ sessions.new)) }
-    ensures named { IfErr result (λ f. NamesFirst K.grid K.book K.cap f (works_of changes.now lists.now)
-        (party.old ∷ sessions.old) (party.new ∷ sessions.new)) }
+    requires places { length faults.old ≡ length lists.now }
+    ensures ended { AllHaveEnded K.grid K.book K.cap (works_of changes.now lists.now) (party.old ∷ sessions.old)
+        (party.new ∷ sessions.new) (fault.new ∷ faults.new) }
 {
-    let mut here = || -> Result<(), RunFault>
+    let mut here = ||
         requires { IsSync R.row × IsSync K.row × IsSend K.row × IsSync G.row × (party.now.id ≡ 0)
             × All (λ change. FitsControl K.grid change) changes.now }
-        ensures ok { OnOk result (HasRun (map set_by changes.entry.now) party.entry.now party.exit.now) }
-        ensures refused { IfErr result (λ f. IsRefused K.grid K.book K.cap f (map set_by changes.entry.now)
-            party.entry.now party.exit.now) }
-    { place.work_off(changes, party) };
-    let mut there = || -> Result<(), RunFault>
+        ensures { HasEnded K.grid K.book K.cap (map set_by changes.entry.now) party.entry.now party.exit.now
+            fault.exit.now }
+    { place.work_off(changes, party, fault) };
+    let mut there = ||
         requires { IsSync R.row × IsSync K.row × IsSend K.row × IsSync G.row × (length lists.now ≡ length sessions.now)
-            × All (λ list. All (λ command. FitsCommand K.grid command) list) lists.now }
-        ensures ok { OnOk result (AllHaveRun (seats_in lists.entry.now) sessions.entry.now sessions.exit.now) }
-        ensures refused { IfErr result (λ _. AllHaveBegun (seats_in lists.entry.now) sessions.entry.now
-            sessions.exit.now) }
-        ensures named { IfErr result (λ f. NamesFirst K.grid K.book K.cap f (seats_in lists.entry.now)
-            sessions.entry.now sessions.exit.now) }
-    { work_all(place, lists, sessions) };
-    let (rest, managed) = join_mut(place.rt, &mut there, &mut here);
-    managed.and(rest)
+            × All (λ list. All (λ command. FitsCommand K.grid command) list) lists.now
+            × (length faults.now ≡ length lists.now) }
+        ensures { AllHaveEnded K.grid K.book K.cap (seats_in lists.entry.now) sessions.entry.now sessions.exit.now
+            faults.exit.now }
+    { work_all(place, lists, sessions, faults) };
+    let _ = join_mut(place.rt, &mut there, &mut here);
 }
 
 // A worker for each list.
 #[cycle(workers)]
+#[tactic(auto, using(crate::proofs::Working::ended_none))]
 fn work_all<K: Hosting + Send + Sync, R: Threads + Wait + Sync, G: Gate>(
     place: &Workplace<'_, K, R, G>,
     lists: &[CommandList],
     sessions: &mut [Session<K>],
-) -> Result<(), RunFault>
+    faults: &mut [Option<RunFault>],
+)
     requires lists { length lists.now ≡ length sessions.old }
     requires commands { All (λ list. All (λ command. FitsCommand K.grid command) list) lists.now }
-    ensures ok { OnOk result (AllHaveRun (seats_in lists.now) sessions.old sessions.new) }
-    ensures refused { IfErr result (λ _. AllHaveBegun (seats_in lists.now) sessions.old sessions.new) }
-    ensures named { IfErr result (λ f. NamesFirst K.grid K.book K.cap f (seats_in lists.now) sessions.old
-        sessions.new) }
+    requires places { length faults.old ≡ length lists.now }
+    ensures ended { AllHaveEnded K.grid K.book K.cap (seats_in lists.now) sessions.old sessions.new faults.new }
 {
     let Some((list, later)) = lists.split_first() else {
-        return Ok(());
+        return;
     };
     let Some((session, others)) = sessions.split_first_mut() else {
-        return Ok(());
+        return;
     };
-    side_by_side(place, list.as_slice(), &mut session.party, later, others)
+    let Some((fault, rest)) = faults.split_first_mut() else {
+        return;
+    };
+    side_by_side(
+        place,
+        list.as_slice(),
+        &mut session.party,
+        fault,
+        later,
+        others,
+        rest,
+    );
 }
 
 // The first session's worker in this thread, and the others' beside it.
 #[cycle(workers)]
-#[tactic(auto, using(crate::proofs::Working::asks_seats, crate::proofs::Working::begun_run, crate::proofs::Working::begun_refused, crate::proofs::Working::all_begun, crate::proofs::Working::run_both))]
 fn side_by_side<K: Hosting + Send + Sync, R: Threads + Wait + Sync, G: Gate>(
     place: &Workplace<'_, K, R, G>,
     list: &[Command],
     party: &mut Party<K>,
+    fault: &mut Option<RunFault>,
     later: &[CommandList],
     others: &mut [Session<K>],
-) -> Result<(), RunFault>
+    rest: &mut [Option<RunFault>],
+)
     requires session { (1 ≤ party.old.id) × (party.old.id ≤ 8) }
     requires list { All (λ command. FitsCommand K.grid command) list.now }
     requires lists { length later.now ≡ length others.old }
     requires commands { All (λ list. All (λ command. FitsCommand K.grid command) list) later.now }
-    ensures ok { OnOk result (AllHaveRun (map Seats list.now ∷ seats_in later.now) (party.old ∷ others.old)
-        (party.new ∷ others.new)) }
-    ensures refused { IfErr result (λ _. AllHaveBegun (map Seats list.now ∷ seats_in later.now) (party.old ∷ others.old)
-        (party.new ∷ others.new)) }
-    ensures named { IfErr result (λ f. NamesFirst K.grid K.book K.cap f (map Seats list.now ∷ seats_in later.now)
-        (party.old ∷ others.old) (party.new ∷ others.new)) }
+    requires places { length rest.old ≡ length later.now }
+    ensures ended { AllHaveEnded K.grid K.book K.cap (map Seats list.now ∷ seats_in later.now) (party.old ∷ others.old)
+        (party.new ∷ others.new) (fault.new ∷ rest.new) }
 {
-    let mut here = || -> Result<(), RunFault>
+    let mut here = ||
         requires { IsSync R.row × IsSync K.row × IsSend K.row × IsSync G.row × (1 ≤ party.now.id) × (party.now.id ≤ 8)
             × All (λ command. FitsCommand K.grid command) list.now }
-        ensures ok { OnOk result (HasRun (map Seats list.entry.now) party.entry.now party.exit.now) }
-        ensures refused { IfErr result (λ f. IsRefused K.grid K.book K.cap f (map Seats list.entry.now) party.entry.now
-            party.exit.now) }
-    { place.work_off(list, party) };
-    let mut there = || -> Result<(), RunFault>
+        ensures { HasEnded K.grid K.book K.cap (map Seats list.entry.now) party.entry.now party.exit.now
+            fault.exit.now }
+    { place.work_off(list, party, fault) };
+    let mut there = ||
         requires { IsSync R.row × IsSync K.row × IsSend K.row × IsSync G.row × (length later.now ≡ length others.now)
-            × All (λ list. All (λ command. FitsCommand K.grid command) list) later.now }
-        ensures ok { OnOk result (AllHaveRun (seats_in later.entry.now) others.entry.now others.exit.now) }
-        ensures refused { IfErr result (λ _. AllHaveBegun (seats_in later.entry.now) others.entry.now others.exit.now) }
-        ensures named { IfErr result (λ f. NamesFirst K.grid K.book K.cap f (seats_in later.entry.now) others.entry.now
-            others.exit.now) }
-    { work_all(place, later, others) };
-    let (rest, first) = join_mut(place.rt, &mut there, &mut here);
-    first.and(rest)
+            × All (λ list. All (λ command. FitsCommand K.grid command) list) later.now
+            × (length rest.now ≡ length later.now) }
+        ensures { AllHaveEnded K.grid K.book K.cap (seats_in later.entry.now) others.entry.now others.exit.now
+            rest.exit.now }
+    { work_all(place, later, others, rest) };
+    let _ = join_mut(place.rt, &mut there, &mut here);
 }
 
 // A turn has a quarter of the calls before it: short lists are booked side by side, and in a long one a worker rarely
@@ -184,9 +213,20 @@ fn calls_after(booked: usize) -> usize
 }
 
 impl<K: Hosting, R: Wait, G: Gate> Workplace<'_, K, R, G> {
-    // One worker: has its list made into lines in order, as far as the first refusal. Threads that meet at the lock at each
-    // call are slow, so where the gate lets them they take turns.
-    fn work_off<J: Asking>(&self, list: &[J], party: &mut Party<K>) -> Result<(), RunFault>
+    // One worker, which puts the refusal of its call at its place.
+    fn work_off<J: Asking>(&self, list: &[J], party: &mut Party<K>, fault: &mut Option<RunFault>)
+        requires asks { All (Asks K.grid party.old.id) (map J.asks list.now) }
+        ensures ended { HasEnded K.grid K.book K.cap (map J.asks list.now) party.old party.new fault.new }
+    {
+        match self.book_list(list, party) {
+            Ok(()) => *fault = None,
+            Err(refused) => *fault = Some(refused),
+        }
+    }
+
+    // Has a list made into lines in order, as far as the first refusal. Threads that meet at the lock at each call are slow,
+    // so where the gate lets them they take turns.
+    fn book_list<J: Asking>(&self, list: &[J], party: &mut Party<K>) -> Result<(), RunFault>
         requires asks { All (Asks K.grid party.old.id) (map J.asks list.now) }
         ensures ok { OnOk result (HasRun (map J.asks list.now) party.old party.new) }
         ensures refused { IfErr result (λ f. IsRefused K.grid K.book K.cap f (map J.asks list.now) party.old
