@@ -23,6 +23,13 @@ list_code kinds.Class = codes "V1"
 list_code kinds.ClassAgain = codes "V2"
 list_code kinds.Seats = codes "V3"
 list_code kinds.Refused = codes "W1"
+list_code kinds.First = codes "K1"
+list_code kinds.Protection = codes "G1"
+list_code kinds.Source = codes "G2"
+list_code kinds.SourceAgain = codes "G3"
+list_code kinds.Target = codes "G4"
+list_code kinds.TargetClass = codes "G5"
+list_code kinds.TargetHeld = codes "G6"
 
 -- the code, a blank and the line
 abbrev pub list_text : ListKind → ℕ → List ℕ

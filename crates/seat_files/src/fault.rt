@@ -17,7 +17,7 @@ pub enum Fault {
     Word(WordFault),
     /// A season file is none.
     Season(SeasonKind),
-    /// A line of a partner's list, or of its thresholds, is none, or a row of a list of refused lines is another; they count from 1.
+    /// A line of a partner's list, of its thresholds, or of what a carry is asked for is none, or a row of a list of refused lines is another; they count from 1.
     Listed { kind: ListKind, line: u32 },
     /// Bookings are not carried from a journal to another.
     Carry(CarryKind),
@@ -47,7 +47,7 @@ impl fmt::Display for CarryKind {
     }
 }
 
-/// What is wrong with a line of a partner's list, of its thresholds, or of a list of refused lines.
+/// What is wrong with a line of a partner's list, of its thresholds, of a list of refused lines, or of the two lists of a carry.
 #[derive(Clone, Copy, Debug, PartialEq, Eq)]
 pub enum ListKind {
     /// No locator stands in its place, or no blank behind it.
@@ -66,6 +66,20 @@ pub enum ListKind {
     Seats,
     /// A row of a list of refused lines is not that of the scripts.
     Refused,
+    /// A line of those who keep their seats first is no locator.
+    First,
+    /// A line that says where bookings go is no such row.
+    Protection,
+    /// The old season has no flight of that name, day and pair of stations.
+    Source,
+    /// A row ahead of it says where these bookings go.
+    SourceAgain,
+    /// The new season has none where they are to go.
+    Target,
+    /// The flight where they are to go doesn't sell a class.
+    TargetClass,
+    /// A locator has a booking in that class there already.
+    TargetHeld,
 }
 
 impl fmt::Display for ListKind {
@@ -74,7 +88,7 @@ impl fmt::Display for ListKind {
 
     ghost output = { λ kind. Some (list_code kind) };
 
-    /// The code, T1 to T4, V1 to V3 or W1, and behind T2 that of the segment line.
+    /// The code, T1 to T4, V1 to V3, W1, K1 or G1 to G6, and behind T2 that of the segment line.
     fn fmt<W: fmt::Write>(&self, f: &mut fmt::Formatter<W>) -> fmt::Result {
         let kind = *self;
         match kind {
@@ -86,6 +100,13 @@ impl fmt::Display for ListKind {
             ListKind::ClassAgain => f.write_str("V2"),
             ListKind::Seats => f.write_str("V3"),
             ListKind::Refused => f.write_str("W1"),
+            ListKind::First => f.write_str("K1"),
+            ListKind::Protection => f.write_str("G1"),
+            ListKind::Source => f.write_str("G2"),
+            ListKind::SourceAgain => f.write_str("G3"),
+            ListKind::Target => f.write_str("G4"),
+            ListKind::TargetClass => f.write_str("G5"),
+            ListKind::TargetHeld => f.write_str("G6"),
         }
     }
 }

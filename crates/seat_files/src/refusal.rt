@@ -114,7 +114,7 @@ impl<'a> Refusal<'a> {
         refusal
     }
 
-    /// A line of a partner's list, or of its thresholds, that is none, or a row of a list of refused lines that is another.
+    /// A line of a partner's list, of its thresholds or of a list of a carry that is none, or a row of a list of refused lines that is another.
     pub fn of_list(kind: ListKind, line: u32) -> Refusal<'a>
         ensures text { printed result.fault ≡ list_text kind line }
         ensures status { exit_status result.fault ≡ 1 }

@@ -52,7 +52,7 @@ rooms_line = leaf_line is_complete (built_leaf (with_switches rooms_app).top)
 loads_line : Yields is_complete (built_leaf (with_switches loads_app).top)
 unfolding loads_app horizon_app
 loads_line = leaf_line is_complete (built_leaf (with_switches loads_app).top)
-    (set_keeps _ refl refl, (set_keeps _ refl refl, (set_keeps _ refl refl, (set_keeps _ refl refl, (set_keeps _ refl refl, (set_keeps _ refl refl, (set_keeps _ refl refl, (set_keeps _ refl refl, (set_keeps _ refl refl, (flag_keeps _ refl _ refl, (flag_keeps _ refl _ refl, (flag_keeps _ refl _ refl, (flag_keeps _ refl _ refl, (flag_keeps _ refl _ refl, (set_keeps _ refl refl, (flag_keeps _ refl _ refl, (flag_keeps _ refl _ refl, (help_keeps _ refl, tt)))))))))))))))))) (λ rows h. h)
+    (set_keeps _ refl refl, (set_keeps _ refl refl, (set_keeps _ refl refl, (set_keeps _ refl refl, (set_keeps _ refl refl, (set_keeps _ refl refl, (set_keeps _ refl refl, (set_keeps _ refl refl, (set_keeps _ refl refl, (flag_keeps _ refl _ refl, (flag_keeps _ refl _ refl, (flag_keeps _ refl _ refl, (flag_keeps _ refl _ refl, (flag_keeps _ refl _ refl, (flag_keeps _ refl _ refl, (set_keeps _ refl refl, (append_keeps _ refl refl, (flag_keeps _ refl _ refl, (flag_keeps _ refl _ refl, (help_keeps _ refl, tt)))))))))))))))))))) (λ rows h. h)
 
 run_line : Yields is_complete (built_leaf (with_switches run_app).top)
 unfolding run_app horizon_app
@@ -77,7 +77,7 @@ bookings_line = leaf_line is_complete (built_leaf (with_switches bookings_app).t
 waiting_line : Yields is_complete (built_leaf (with_switches waiting_app).top)
 unfolding waiting_app horizon_app
 waiting_line = leaf_line is_complete (built_leaf (with_switches waiting_app).top)
-    (set_keeps _ refl refl, (set_keeps _ refl refl, (set_keeps _ refl refl, (set_keeps _ refl refl, (set_keeps _ refl refl, (set_keeps _ refl refl, (set_keeps _ refl refl, (flag_keeps _ refl _ refl, (flag_keeps _ refl _ refl, (flag_keeps _ refl _ refl, (set_keeps _ refl refl, (flag_keeps _ refl _ refl, (flag_keeps _ refl _ refl, (help_keeps _ refl, tt)))))))))))))) (λ rows h. h)
+    (set_keeps _ refl refl, (set_keeps _ refl refl, (set_keeps _ refl refl, (set_keeps _ refl refl, (set_keeps _ refl refl, (set_keeps _ refl refl, (set_keeps _ refl refl, (flag_keeps _ refl _ refl, (flag_keeps _ refl _ refl, (flag_keeps _ refl _ refl, (flag_keeps _ refl _ refl, (set_keeps _ refl refl, (append_keeps _ refl refl, (flag_keeps _ refl _ refl, (flag_keeps _ refl _ refl, (help_keeps _ refl, tt)))))))))))))))) (λ rows h. h)
 
 pickup_line : Yields is_complete (built_leaf (with_switches pickup_app).top)
 unfolding pickup_app horizon_app
@@ -107,7 +107,7 @@ compare_line = leaf_line is_complete (built_leaf (with_switches compare_app).top
 carry_line : Yields is_complete (built_leaf (with_switches carry_app).top)
 unfolding carry_app
 carry_line = leaf_line is_complete (built_leaf (with_switches carry_app).top)
-    (set_keeps _ refl refl, (set_keeps _ refl refl, (set_keeps _ refl refl, (set_keeps _ refl refl, (flag_keeps _ refl _ refl, (flag_keeps _ refl _ refl, (flag_keeps _ refl _ refl, (flag_keeps _ refl _ refl, (set_keeps _ refl refl, (flag_keeps _ refl _ refl, (flag_keeps _ refl _ refl, (help_keeps _ refl, tt)))))))))))) (λ rows h. h)
+    (set_keeps _ refl refl, (set_keeps _ refl refl, (set_keeps _ refl refl, (set_keeps _ refl refl, (set_keeps _ refl refl, (set_keeps _ refl refl, (flag_keeps _ refl _ refl, (flag_keeps _ refl _ refl, (flag_keeps _ refl _ refl, (flag_keeps _ refl _ refl, (flag_keeps _ refl _ refl, (flag_keeps _ refl _ refl, (set_keeps _ refl refl, (flag_keeps _ refl _ refl, (flag_keeps _ refl _ refl, (help_keeps _ refl, tt)))))))))))))))) (λ rows h. h)
 
 changes_line : Yields is_complete (built_leaf (with_switches changes_app).top)
 unfolding changes_app horizon_app

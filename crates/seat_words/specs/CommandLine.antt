@@ -103,7 +103,7 @@ rooms_app = with_rule (with_rule (with_rule (with_rule (with_rule (with_rule (wi
     (optional_value (codes "journal"))
 
 unfoldable pub loads_app : App
-loads_app = with_rule (with_rule (with_rule (with_rule (with_rule (with_rule (with_rule (with_rule (with_rule (with_rule (horizon_app (codes "loads"))
+loads_app = with_rule (with_rule (with_rule (with_rule (with_rule (with_rule (with_rule (with_rule (with_rule (with_rule (with_rule (with_rule (horizon_app (codes "loads"))
     (optional (codes "flight")))
     (optional (codes "day")))
     (optional (codes "pair")))
@@ -113,7 +113,9 @@ loads_app = with_rule (with_rule (with_rule (with_rule (with_rule (with_rule (wi
     (flag (codes "json")))
     (flag (codes "html")))
     (flag (codes "open")))
-    (optional_value (codes "journal"))
+    (flag (codes "shards")))
+    (optional_value (codes "journal")))
+    (optional_values (codes "others"))
 
 unfoldable pub run_app : App
 run_app = with_rule (with_rule (with_rule (with_rule (with_rule (with_rule (with_rule (with_rule (with_rule (with_rule (horizon_app (codes "run"))
@@ -190,13 +192,15 @@ replies_app = with_rule (with_rule (with_rule (with_rule (with_rule (with_rule (
     (optional_values (codes "scripts"))
 
 unfoldable pub waiting_app : App
-waiting_app = with_rule (with_rule (with_rule (with_rule (with_rule (with_rule (horizon_app (codes "waiting"))
+waiting_app = with_rule (with_rule (with_rule (with_rule (with_rule (with_rule (with_rule (with_rule (horizon_app (codes "waiting"))
     (optional (codes "flight")))
     (optional (codes "day")))
     (flag (codes "csv")))
     (flag (codes "json")))
     (flag (codes "open")))
-    (required_value (codes "journal"))
+    (flag (codes "shards")))
+    (required_value (codes "journal")))
+    (optional_values (codes "others"))
 
 unfoldable pub pickup_app : App
 pickup_app = with_rule (with_rule (with_rule (with_rule (with_rule (with_rule (with_rule (with_rule (horizon_app (codes "pickup"))
@@ -244,15 +248,19 @@ compare_app = with_rule (with_rule (with_rule (new_app (codes "compare"))
     (optional_value (codes "journal"))
 
 unfoldable pub carry_app : App
-carry_app = with_rule (with_rule (with_rule (with_rule (with_rule (with_rule (with_rule (with_rule (with_rule (new_app (codes "carry"))
+carry_app = with_rule (with_rule (with_rule (with_rule (with_rule (with_rule (with_rule (with_rule (with_rule (with_rule (with_rule (with_rule (with_rule (new_app (codes "carry"))
     (required_option (codes "from")))
     (required_option (codes "to")))
     (required_option (codes "today")))
     (required_option (codes "journal")))
+    (optional (codes "protect")))
+    (optional (codes "order")))
     (flag (codes "displace")))
     (flag (codes "fresh-limits")))
     (flag (codes "anew")))
     (flag (codes "dry-run")))
+    (flag (codes "csv")))
+    (flag (codes "json")))
     (required_value (codes "carried"))
 
 unfoldable pub changes_app : App

@@ -96,7 +96,9 @@ IsLoads rows asked = IsOver rows asked.over
     × IsShaped rows asked.shape
     × HasFlag rows (codes "html") asked.html
     × HasFlag rows (codes "open") asked.is_open
+    × HasFlag rows (codes "shards") asked.are_shards
     × MayHave rows (codes "journal") (option_map (λ text. text.now) asked.journal)
+    × HasAny rows (codes "others") asked.others
 
 abbrev pub IsRun : List Row → RunJob → Type 0
 IsRun rows asked = IsOver rows asked.over
@@ -143,7 +145,9 @@ IsWaiting rows asked = IsOver rows asked.over
     × MayHave rows (codes "day") (option_map (λ text. text.now) asked.day)
     × IsShaped rows asked.shape
     × HasFlag rows (codes "open") asked.is_open
+    × HasFlag rows (codes "shards") asked.are_shards
     × Has rows (codes "journal") asked.journal.now
+    × HasAny rows (codes "others") asked.others
 
 abbrev pub IsPickup : List Row → PickupJob → Type 0
 IsPickup rows asked = IsOver rows asked.over
@@ -192,10 +196,13 @@ IsCarry rows asked = Has rows (codes "from") asked.from.now
     × Has rows (codes "to") asked.to.now
     × Has rows (codes "today") asked.today.now
     × Has rows (codes "journal") asked.new.now
+    × MayHave rows (codes "protect") (option_map (λ text. text.now) asked.protections)
+    × MayHave rows (codes "order") (option_map (λ text. text.now) asked.order)
     × HasFlag rows (codes "displace") asked.displaces
     × HasFlag rows (codes "fresh-limits") asked.fresh_limits
     × HasFlag rows (codes "anew") asked.anew
     × HasFlag rows (codes "dry-run") asked.dry_run
+    × IsShaped rows asked.shape
     × Has rows (codes "carried") asked.journal.now
 
 abbrev pub IsChanges : List Row → ChangesJob → Type 0

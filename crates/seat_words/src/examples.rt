@@ -112,6 +112,15 @@ pub fn examples_are_read()
         ∷ (codes "first", codes "2024-07-01" ∷ []) ∷ (codes "days", codes "31" ∷ [])
         ∷ (codes "day", codes "2024-07-27" ∷ [])
         ∷ (codes "journal", codes "examples/journal.txt" ∷ [])
+        ∷ (codes "bars", codes "false" ∷ []) ∷ (codes "csv", codes "false" ∷ []) ∷ (codes "json", codes "false" ∷ []) ∷ (codes "html", codes "false" ∷ []) ∷ (codes "open", codes "false" ∷ []) ∷ (codes "shards", codes "false" ∷ [])
+        ∷ (codes "verbose", codes "false" ∷ []) ∷ (codes "quiet", codes "false" ∷ []) ∷ []) }
+    ensures together { IsReadTo
+        (codes "seatdesk loads --set examples/summer.ssim --limits examples/limits.txt --first 2024-07-01 --days 31 --shards examples/journal.txt journal-3.txt")
+        (codes "loads")
+        ((codes "set", codes "examples/summer.ssim" ∷ []) ∷ (codes "limits", codes "examples/limits.txt" ∷ [])
+        ∷ (codes "first", codes "2024-07-01" ∷ []) ∷ (codes "days", codes "31" ∷ [])
+        ∷ (codes "shards", codes "true" ∷ []) ∷ (codes "journal", codes "examples/journal.txt" ∷ [])
+        ∷ (codes "others", codes "journal-3.txt" ∷ [])
         ∷ (codes "bars", codes "false" ∷ []) ∷ (codes "csv", codes "false" ∷ []) ∷ (codes "json", codes "false" ∷ []) ∷ (codes "html", codes "false" ∷ []) ∷ (codes "open", codes "false" ∷ [])
         ∷ (codes "verbose", codes "false" ∷ []) ∷ (codes "quiet", codes "false" ∷ []) ∷ []) }
     ensures bookings { IsReadTo
@@ -129,6 +138,15 @@ pub fn examples_are_read()
         ∷ (codes "first", codes "2024-07-01" ∷ []) ∷ (codes "days", codes "31" ∷ [])
         ∷ (codes "flight", codes "LZ601" ∷ []) ∷ (codes "day", codes "2024-07-27" ∷ [])
         ∷ (codes "journal", codes "examples/journal.txt" ∷ [])
+        ∷ (codes "csv", codes "false" ∷ []) ∷ (codes "json", codes "false" ∷ []) ∷ (codes "open", codes "false" ∷ []) ∷ (codes "shards", codes "false" ∷ [])
+        ∷ (codes "verbose", codes "false" ∷ []) ∷ (codes "quiet", codes "false" ∷ []) ∷ []) }
+    ensures waiters { IsReadTo
+        (codes "seatdesk waiting --set examples/summer.ssim --limits examples/limits.txt --first 2024-07-01 --days 31 --shards examples/journal.txt journal-3.txt")
+        (codes "waiting")
+        ((codes "set", codes "examples/summer.ssim" ∷ []) ∷ (codes "limits", codes "examples/limits.txt" ∷ [])
+        ∷ (codes "first", codes "2024-07-01" ∷ []) ∷ (codes "days", codes "31" ∷ [])
+        ∷ (codes "shards", codes "true" ∷ []) ∷ (codes "journal", codes "examples/journal.txt" ∷ [])
+        ∷ (codes "others", codes "journal-3.txt" ∷ [])
         ∷ (codes "csv", codes "false" ∷ []) ∷ (codes "json", codes "false" ∷ []) ∷ (codes "open", codes "false" ∷ [])
         ∷ (codes "verbose", codes "false" ∷ []) ∷ (codes "quiet", codes "false" ∷ []) ∷ []) }
     ensures pickup { IsReadTo
@@ -189,6 +207,7 @@ pub fn examples_are_read()
         ∷ (codes "carried", codes "examples/journal.txt" ∷ [])
         ∷ (codes "displace", codes "false" ∷ []) ∷ (codes "fresh-limits", codes "false" ∷ [])
         ∷ (codes "anew", codes "false" ∷ []) ∷ (codes "dry-run", codes "false" ∷ [])
+        ∷ (codes "csv", codes "false" ∷ []) ∷ (codes "json", codes "false" ∷ [])
         ∷ (codes "verbose", codes "false" ∷ []) ∷ (codes "quiet", codes "false" ∷ []) ∷ []) }
     ensures trial { IsReadTo
         (codes "seatdesk carry --from examples/summer.toml --to winter.toml --today 2024-06-20 --journal winter.txt --displace --dry-run examples/journal.txt")
@@ -198,6 +217,18 @@ pub fn examples_are_read()
         ∷ (codes "displace", codes "true" ∷ []) ∷ (codes "dry-run", codes "true" ∷ [])
         ∷ (codes "carried", codes "examples/journal.txt" ∷ [])
         ∷ (codes "fresh-limits", codes "false" ∷ []) ∷ (codes "anew", codes "false" ∷ [])
+        ∷ (codes "csv", codes "false" ∷ []) ∷ (codes "json", codes "false" ∷ [])
+        ∷ (codes "verbose", codes "false" ∷ []) ∷ (codes "quiet", codes "false" ∷ []) ∷ []) }
+    ensures protected { IsReadTo
+        (codes "seatdesk carry --from examples/summer.toml --to winter.toml --today 2024-06-20 --journal winter.txt --protect protected.txt --order first.txt --displace examples/journal.txt")
+        (codes "carry")
+        ((codes "from", codes "examples/summer.toml" ∷ []) ∷ (codes "to", codes "winter.toml" ∷ [])
+        ∷ (codes "today", codes "2024-06-20" ∷ []) ∷ (codes "journal", codes "winter.txt" ∷ [])
+        ∷ (codes "protect", codes "protected.txt" ∷ []) ∷ (codes "order", codes "first.txt" ∷ [])
+        ∷ (codes "displace", codes "true" ∷ [])
+        ∷ (codes "carried", codes "examples/journal.txt" ∷ [])
+        ∷ (codes "fresh-limits", codes "false" ∷ []) ∷ (codes "anew", codes "false" ∷ []) ∷ (codes "dry-run", codes "false" ∷ [])
+        ∷ (codes "csv", codes "false" ∷ []) ∷ (codes "json", codes "false" ∷ [])
         ∷ (codes "verbose", codes "false" ∷ []) ∷ (codes "quiet", codes "false" ∷ []) ∷ []) }
     ensures route { IsReadTo
         (codes "seatdesk route --shards 4 examples/london.txt examples/lisbon.txt")

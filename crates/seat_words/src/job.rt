@@ -49,7 +49,7 @@ pub enum Job<'a> {
     /// `seatdesk rooms` over a horizon `[--day DATE] [--pair PAIR] [--bars] [--csv] [--json] [--open] [JOURNAL]`
     Rooms(RoomsJob<'a>),
     /// `seatdesk loads` over a horizon `[--flight FLIGHT] [--day DATE] [--pair PAIR] [--by BY] [--bars] [--csv] [--json] [--html]
-    /// [--open] [JOURNAL]`
+    /// [--open] [--shards] [JOURNAL] [OTHER...]`
     Loads(LoadsJob<'a>),
     /// `seatdesk run` over a horizon `[--after JOURNAL] [--behind N] [--resume JOURNAL] --today DATE --journal OUT [--changes FILE]
     /// [--refused FILE] [--no-clobber] [--again] [SCRIPT...]`
@@ -61,7 +61,7 @@ pub enum Job<'a> {
     Route(RouteJob<'a>),
     /// `seatdesk bookings` over a horizon `[--locator LOCATOR]... [--flight FLIGHT] [--day DATE] [--csv] [--json] [--open] JOURNAL`
     Bookings(BookingsJob<'a>),
-    /// `seatdesk waiting` over a horizon `[--flight FLIGHT] [--day DATE] [--csv] [--json] [--open] JOURNAL`
+    /// `seatdesk waiting` over a horizon `[--flight FLIGHT] [--day DATE] [--csv] [--json] [--open] [--shards] JOURNAL [OTHER...]`
     Waiting(WaitingJob<'a>),
     /// `seatdesk pickup` over a horizon `[--behind N] [--since OLDER] [--flight FLIGHT] [--by BY] [--csv] [--json] [--open] JOURNAL`
     Pickup(PickupJob<'a>),
@@ -73,7 +73,8 @@ pub enum Job<'a> {
     Reconcile(ReconcileJob<'a>),
     /// `seatdesk compare --from SEASON --to SEASON [JOURNAL]`
     Compare(CompareJob<'a>),
-    /// `seatdesk carry --from SEASON --to SEASON --today DATE --journal NEW [--displace] [--fresh-limits] [--anew] [--dry-run] JOURNAL`
+    /// `seatdesk carry --from SEASON --to SEASON --today DATE --journal NEW [--protect FILE] [--order FILE] [--displace] [--fresh-limits]
+    /// [--anew] [--dry-run] [--csv] [--json] JOURNAL`
     Carry(CarryJob<'a>),
     /// `seatdesk changes` over a horizon `--to WANTED [--flight FLIGHT] [--day DATE] [--pair PAIR] [--open] JOURNAL`
     Changes(ChangesJob<'a>),
@@ -136,7 +137,7 @@ pub struct RoomsJob<'a> {
 }
 
 /// What `seatdesk loads` asks for.
-#[derive(Clone, Copy)]
+#[derive(Drop)]
 pub struct LoadsJob<'a> {
     pub over: Horizon<'a>,
     pub flight: Option<&'a str>,
@@ -147,7 +148,11 @@ pub struct LoadsJob<'a> {
     pub shape: Shape,
     pub html: bool,
     pub is_open: bool,
+    /// The journals are those of hosts that have different flights.
+    pub are_shards: bool,
     pub journal: Option<&'a str>,
+    /// None or more.
+    pub others: Several<'a>,
 }
 
 /// What `seatdesk run` asks for.
@@ -212,14 +217,18 @@ pub struct BookingsJob<'a> {
 }
 
 /// What `seatdesk waiting` asks for.
-#[derive(Clone, Copy)]
+#[derive(Drop)]
 pub struct WaitingJob<'a> {
     pub over: Horizon<'a>,
     pub flight: Option<&'a str>,
     pub day: Option<&'a str>,
     pub shape: Shape,
     pub is_open: bool,
+    /// The journals are those of hosts that have different flights.
+    pub are_shards: bool,
     pub journal: &'a str,
+    /// None or more.
+    pub others: Several<'a>,
 }
 
 /// What `seatdesk pickup` asks for.
@@ -291,7 +300,11 @@ pub struct CarryJob<'a> {
     pub today: &'a str,
     /// The journal that is made.
     pub new: &'a str,
-    /// Where a leg has too few seats the highest numbers lose.
+    /// Rows that say to which flights the bookings of others go.
+    pub protections: Option<&'a str>,
+    /// Locators that keep their seats first.
+    pub order: Option<&'a str>,
+    /// Where a leg has too few seats the highest numbers lose, those of the order last.
     pub displaces: bool,
     /// The limits are those of the second season's file, without what changes and closings of the journal set.
     pub fresh_limits: bool,
@@ -299,6 +312,8 @@ pub struct CarryJob<'a> {
     pub anew: bool,
     /// Writes the report alone.
     pub dry_run: bool,
+    /// Of the report.
+    pub shape: Shape,
     /// The journal that is carried.
     pub journal: &'a str,
 }
@@ -449,7 +464,7 @@ fn job_named<'a>(alloc: Global, name: &str, matches: &ArgMatches<'a>) -> Result<
         }),
         "cover" => Ok(Job::Cover(cover_asked(matches))),
         "rooms" => Ok(Job::Rooms(rooms_asked(matches))),
-        "loads" => Ok(Job::Loads(loads_asked(matches))),
+        "loads" => Ok(Job::Loads(loads_asked(alloc, matches)?)),
         "run" => Ok(Job::Run(run_asked(alloc, matches)?)),
         "serve" => Ok(Job::Serve(serve_asked(alloc, matches)?)),
         "route" => Ok(Job::Route(route_asked(alloc, matches)?)),
@@ -468,7 +483,7 @@ fn asking_job<'a>(
 {
     match name {
         "bookings" => Ok(Job::Bookings(bookings_asked(alloc, matches)?)),
-        "waiting" => Ok(Job::Waiting(waiting_asked(matches))),
+        "waiting" => Ok(Job::Waiting(waiting_asked(alloc, matches)?)),
         "pickup" => Ok(Job::Pickup(pickup_asked(matches))),
         "history" => Ok(Job::History(history_asked(matches))),
         "avs" => Ok(Job::Avs(avs_asked(matches))),
@@ -545,11 +560,11 @@ fn rooms_asked<'a>(matches: &ArgMatches<'a>) -> RoomsJob<'a>
     }
 }
 
-fn loads_asked<'a>(matches: &ArgMatches<'a>) -> LoadsJob<'a>
+fn loads_asked<'a>(alloc: Global, matches: &ArgMatches<'a>) -> Result<LoadsJob<'a>, AllocError>
     requires { is_complete (codes "loads", rows_of (found_of matches.now)) ≡ true }
-    ensures { IsLoads (rows_of (found_of matches.now)) result }
+    ensures { IfOk result (IsLoads (rows_of (found_of matches.now))) }
 {
-    LoadsJob {
+    Ok(LoadsJob {
         over: horizon_of(matches),
         flight: may_value_of(matches, "flight"),
         day: may_value_of(matches, "day"),
@@ -559,8 +574,10 @@ fn loads_asked<'a>(matches: &ArgMatches<'a>) -> LoadsJob<'a>
         shape: shape_of(matches),
         html: flag_of(matches, "html"),
         is_open: flag_of(matches, "open"),
+        are_shards: flag_of(matches, "shards"),
         journal: may_value_of(matches, "journal"),
-    }
+        others: any_values_of(alloc, matches, "others")?,
+    })
 }
 
 fn run_asked<'a>(alloc: Global, matches: &ArgMatches<'a>) -> Result<RunJob<'a>, AllocError>
@@ -630,18 +647,20 @@ fn bookings_asked<'a>(
     })
 }
 
-fn waiting_asked<'a>(matches: &ArgMatches<'a>) -> WaitingJob<'a>
+fn waiting_asked<'a>(alloc: Global, matches: &ArgMatches<'a>) -> Result<WaitingJob<'a>, AllocError>
     requires { is_complete (codes "waiting", rows_of (found_of matches.now)) ≡ true }
-    ensures { IsWaiting (rows_of (found_of matches.now)) result }
+    ensures { IfOk result (IsWaiting (rows_of (found_of matches.now))) }
 {
-    WaitingJob {
+    Ok(WaitingJob {
         over: horizon_of(matches),
         flight: may_value_of(matches, "flight"),
         day: may_value_of(matches, "day"),
         shape: shape_of(matches),
         is_open: flag_of(matches, "open"),
+        are_shards: flag_of(matches, "shards"),
         journal: value_of(matches, "journal"),
-    }
+        others: any_values_of(alloc, matches, "others")?,
+    })
 }
 
 fn pickup_asked<'a>(matches: &ArgMatches<'a>) -> PickupJob<'a>
@@ -725,10 +744,13 @@ fn carry_asked<'a>(matches: &ArgMatches<'a>) -> CarryJob<'a>
         to: value_of(matches, "to"),
         today: value_of(matches, "today"),
         new: value_of(matches, "journal"),
+        protections: may_value_of(matches, "protect"),
+        order: may_value_of(matches, "order"),
         displaces: flag_of(matches, "displace"),
         fresh_limits: flag_of(matches, "fresh-limits"),
         anew: flag_of(matches, "anew"),
         dry_run: flag_of(matches, "dry-run"),
+        shape: shape_of(matches),
         journal: value_of(matches, "carried"),
     }
 }

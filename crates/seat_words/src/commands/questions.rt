@@ -2,7 +2,9 @@
 ghost use Rattle.std.specs.Prelude.{IfOk};
 ghost use Rattle.seat_words.specs.CommandLine.{IsBuiltAs, bookings_app, history_app, loads_app, pickup_app, rooms_app, waiting_app};
 
-use crate::commands::arguments::Argument::{Flag, Optional, OptionalWord, Several, WantedWord};
+use crate::commands::arguments::Argument::{
+    Flag, Optional, OptionalWord, Several, WantedWord, Words,
+};
 use crate::commands::arguments::{
     Argument, CSV_HELP, FLIGHT_HELP, JOURNAL_HELP, JSON_HELP, OPEN_HELP, horizon_command,
     with_arguments,
@@ -35,6 +37,11 @@ const LEG_PAIR_HELP: &str = "The legs between these two stations alone, as LHRJF
 
 const OPENING_LOADS_HELP: &str =
     "The journal to replay: a file that run wrote, or - for standard input; without it the loads before the first booking";
+
+const SHARDS_HELP: &str =
+    "Takes JOURNAL and the words behind it as journals of hosts that have different flights over this set, each as audit takes it";
+
+const OTHER_HELP: &str = "With --shards the journals of the other hosts";
 
 const OPENING_HELP: &str =
     "The journal to replay: a file that run wrote, or - for standard input; without it the rooms before the first booking";
@@ -76,7 +83,9 @@ const LOADS: &[Argument] = &[
     Flag("json", JSON_HELP),
     Flag("html", HTML_HELP),
     Flag("open", OPEN_HELP),
+    Flag("shards", SHARDS_HELP),
     OptionalWord("journal", "JOURNAL", OPENING_LOADS_HELP),
+    Words("others", "OTHER", OTHER_HELP),
 ];
 
 pub(super) fn loads_command<'a>(alloc: Global) -> Result<Command<'a>, AllocError>
@@ -86,7 +95,7 @@ pub(super) fn loads_command<'a>(alloc: Global) -> Result<Command<'a>, AllocError
         alloc,
         "loads",
         "Writes how full each dated leg is, by class, and what all of them come to",
-        "Example: seatdesk loads --set examples/summer.ssim --limits examples/limits.txt --first 2024-07-01 --days 31 --day 2024-07-27 examples/journal.txt",
+        "Example: seatdesk loads --set examples/summer.ssim --limits examples/limits.txt --first 2024-07-01 --days 31 --day 2024-07-27 examples/journal.txt\n\nOf several hosts: seatdesk loads --set examples/summer.ssim --limits examples/limits.txt --first 2024-07-01 --days 31 --shards examples/journal.txt journal-3.txt",
     );
     with_arguments(alloc, loads, LOADS)
 }
@@ -119,7 +128,9 @@ const WAITING: &[Argument] = &[
     Flag("csv", CSV_HELP),
     Flag("json", JSON_HELP),
     Flag("open", OPEN_HELP),
+    Flag("shards", SHARDS_HELP),
     WantedWord("journal", "JOURNAL", JOURNAL_HELP),
+    Words("others", "OTHER", OTHER_HELP),
 ];
 
 pub(super) fn waiting_command<'a>(alloc: Global) -> Result<Command<'a>, AllocError>
@@ -129,7 +140,7 @@ pub(super) fn waiting_command<'a>(alloc: Global) -> Result<Command<'a>, AllocErr
         alloc,
         "waiting",
         "Writes who waits, in the order in which they would be confirmed, and the seats that they lack",
-        "Example: seatdesk waiting --set examples/summer.ssim --limits examples/limits.txt --first 2024-07-01 --days 31 --flight LZ601 --day 2024-07-27 examples/journal.txt",
+        "Example: seatdesk waiting --set examples/summer.ssim --limits examples/limits.txt --first 2024-07-01 --days 31 --flight LZ601 --day 2024-07-27 examples/journal.txt\n\nOf several hosts: seatdesk waiting --set examples/summer.ssim --limits examples/limits.txt --first 2024-07-01 --days 31 --shards examples/journal.txt journal-3.txt",
     );
     with_arguments(alloc, waiting, WAITING)
 }

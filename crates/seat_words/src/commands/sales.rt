@@ -4,8 +4,8 @@ ghost use Rattle.seat_words.specs.CommandLine.{IsBuiltAs, carry_app, recover_app
 
 use crate::commands::arguments::Argument::{Flag, Optional, Several, Wanted, WantedWord, Words};
 use crate::commands::arguments::{
-    Argument, FROM_SEASON_HELP, SCRIPTS_HELP, TO_SEASON_HELP, TODAY_HELP, horizon_command,
-    named_command, with_arguments,
+    Argument, CSV_HELP, FROM_SEASON_HELP, JSON_HELP, SCRIPTS_HELP, TO_SEASON_HELP, TODAY_HELP,
+    horizon_command, named_command, with_arguments,
 };
 use clap::Command;
 use std::alloc::{AllocError, Global};
@@ -71,8 +71,14 @@ const CARRIED_DAY_HELP: &str =
 const NEW_HELP: &str =
     "The journal of the season of --to, which is made (a file); it may not be JOURNAL";
 
+const PROTECT_HELP: &str =
+    "Rows that say to which flights the bookings of others go, as LZ601 27JUL24 LHRKEF LZ603 28JUL24 Q=M (a file)";
+
+const ORDER_HELP: &str =
+    "Locators that keep their seats first, one a line (a file); the others follow by their numbers";
+
 const DISPLACE_HELP: &str =
-    "Where a leg has too few seats the bookings of the highest numbers lose theirs, and wait where they may; without it no file is written then";
+    "Where a leg has too few seats the bookings of the highest numbers lose theirs, those of --order last, and wait where they may; without it no file is written then";
 
 const FRESH_LIMITS_HELP: &str =
     "The limits are those of the season of --to, without what changes and closings of JOURNAL set";
@@ -170,10 +176,14 @@ const CARRY: &[Argument] = &[
     Wanted("to", "SEASON", TO_SEASON_HELP),
     Wanted("today", "DATE", CARRIED_DAY_HELP),
     Wanted("journal", "NEW", NEW_HELP),
+    Optional("protect", "FILE", PROTECT_HELP),
+    Optional("order", "FILE", ORDER_HELP),
     Flag("displace", DISPLACE_HELP),
     Flag("fresh-limits", FRESH_LIMITS_HELP),
     Flag("anew", ANEW_HELP),
     Flag("dry-run", DRY_RUN_HELP),
+    Flag("csv", CSV_HELP),
+    Flag("json", JSON_HELP),
     WantedWord("carried", "JOURNAL", CARRIED_HELP),
 ];
 
@@ -184,7 +194,7 @@ pub(super) fn carry_command<'a>(alloc: Global) -> Result<Command<'a>, AllocError
         alloc,
         "carry",
         "Carries the live bookings of a journal to another season, into a new journal, and reports on each of them",
-        "JOURNAL is sold from no more: its seal says that it was carried, ahead of the first byte of NEW. A carry that was killed between the\ntwo is finished by the same command, given again. Where a leg of the new season has fewer seats than are held no file is written, and\na line of standard error, OVER, says so of each such leg.\n\nExample: seatdesk carry --from examples/summer.toml --to winter.toml --today 2024-06-20 --journal winter.txt examples/journal.txt\n\nThe report alone, of who would lose seats: seatdesk carry --from examples/summer.toml --to winter.toml --today 2024-06-20 --journal winter.txt --displace --dry-run examples/journal.txt",
+        "JOURNAL is sold from no more: its seal says that it was carried, ahead of the first byte of NEW. A carry that was killed between the\ntwo is finished by the same command, given again. Where a leg of the new season has fewer seats than are held no file is written, and\na line of standard output, OVER, says so of each such leg.\n\nExample: seatdesk carry --from examples/summer.toml --to winter.toml --today 2024-06-20 --journal winter.txt examples/journal.txt\n\nThe report alone, of who would lose seats: seatdesk carry --from examples/summer.toml --to winter.toml --today 2024-06-20 --journal winter.txt --displace --dry-run examples/journal.txt\n\nOthers go to another flight, and some keep their seats first: seatdesk carry --from examples/summer.toml --to winter.toml --today 2024-06-20 --journal winter.txt --protect protected.txt --order first.txt --displace examples/journal.txt",
     );
     with_arguments(alloc, Ok(carry), CARRY)
 }
