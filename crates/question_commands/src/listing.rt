@@ -4,6 +4,7 @@ ghost use Rattle.std.specs.Prelude.{◌≤◌};
 ghost use Rattle.ssim_flights.specs.Right.{IsOfCentury};
 
 use crate::commands::{asked_of, bars_asked, page_of};
+use crate::shards::shards_asked;
 use airline_base::{Day, Locator};
 use command_inputs::{days_of, lines_behind, meter_input};
 use cover_questions::CoverTable;
@@ -15,7 +16,7 @@ use question_words::{
     By, LocatorsFault, by_asked, day_asked, flight_asked, form_asked, locators_asked, page_asked,
     pair_asked, sums_form,
 };
-use seat_desk::DeskFault;
+use seat_desk::{DeskFault, Question};
 use seat_files::{Input, Output, Refusal, metered_output, opened, taken, told};
 use seat_lists::{BookingsOf, WaitingOf, Wanted};
 use seat_loads::LoadsOf;
@@ -108,17 +109,8 @@ pub fn rooms<'a, R: Threads + Sync>(
     match form {
         Some(form) => {
             let table = RoomTable { rooms };
-            tabled(
-                rt,
-                threads,
-                meter,
-                over,
-                days,
-                &table,
-                form,
-                asked.journal,
-                asked.is_open,
-            )
+            let journals = Journals::One(asked.journal, asked.is_open);
+            tabled(rt, threads, meter, over, days, &table, form, journals)
         }
         None => asked_of(
             rt,
@@ -134,6 +126,7 @@ pub fn rooms<'a, R: Threads + Sync>(
 }
 
 /// How full the legs are that `--flight`, `--day` and `--pair` keep, with bars where they are asked for, as a page, or the sums that `--by` names. Without a journal that is before the first booking.
+/// With `--shards` it is after the lines of all the journals.
 pub fn loads<'a, R: Threads + Sync>(
     rt: &HostRuntime,
     threads: &R,
@@ -148,26 +141,104 @@ pub fn loads<'a, R: Threads + Sync>(
         pair: pair_asked(asked.pair)?,
         bars: bars_asked(rt, asked.bars),
     };
-    let (journal, is_open) = (asked.journal, asked.is_open);
     let by = by_asked(asked.by)?;
+    let journals = journals_asked(
+        asked.are_shards,
+        asked.is_open,
+        asked.journal,
+        asked.others.as_slice(),
+    )?;
     if asked.html {
         page_asked(asked.shape, asked.bars, by.is_some())?;
         let page = LoadPage { loads };
-        return page_of(rt, threads, meter, over, days, &page, journal, is_open);
+        return paged(rt, threads, meter, over, days, &page, journals);
     }
     match by {
         Some(by) => {
             let form = sums_form(asked.shape, asked.bars)?;
-            summed(
-                rt, threads, meter, over, days, loads, by, form, journal, is_open,
-            )
+            summed(rt, threads, meter, over, days, loads, by, form, journals)
         }
         None => {
             let form = form_asked(asked.shape, asked.bars)?;
-            loaded(
-                rt, threads, meter, over, days, loads, form, journal, is_open,
-            )
+            loaded(rt, threads, meter, over, days, loads, form, journals)
         }
+    }
+}
+
+/// What is asked about.
+#[derive(Clone, Copy)]
+enum Journals<'a, 'b> {
+    /// A journal, or one without lines, and whether it may be open.
+    One(Option<&'a str>, bool),
+    /// The journals of several hosts: the first, and the others.
+    Shards(&'a str, &'b [&'a str]),
+}
+
+/// The journals that the words name: with `--shards` one or more, which have ended, and else one at most.
+fn journals_asked<'a, 'b>(
+    are_shards: bool,
+    is_open: bool,
+    journal: Option<&'a str>,
+    others: &'b [&'a str],
+) -> Result<Journals<'a, 'b>, WordFault> {
+    if !are_shards {
+        if !others.is_empty() {
+            return Err(WordFault::BadShards);
+        }
+        return Ok(Journals::One(journal, is_open));
+    }
+    if is_open {
+        return Err(WordFault::BadShards);
+    }
+    match journal {
+        Some(first) => Ok(Journals::Shards(first, others)),
+        None => Err(WordFault::BadShards),
+    }
+}
+
+/// The answer to a question about these.
+fn put<'a, R: Threads + Sync, Q: Question>(
+    rt: &HostRuntime,
+    threads: &R,
+    meter: &'a Meter,
+    over: &Horizon<'a>,
+    days: (Day, u16),
+    question: &Q,
+    journals: Journals<'a, '_>,
+) -> Result<(), Refusal<'a>>
+    requires first { IsOfCentury days.0 }
+    requires days { (1 ≤ days.1) × (days.1 ≤ 366) }
+{
+    match journals {
+        Journals::One(journal, is_open) => {
+            asked_of(rt, threads, meter, over, days, question, journal, is_open)
+        }
+        Journals::Shards(first, others) => shards_asked(
+            rt, threads, meter, over, days, question, first, others, false,
+        ),
+    }
+}
+
+/// The same of a question whose answer is a page.
+fn paged<'a, R: Threads + Sync, Q: Question>(
+    rt: &HostRuntime,
+    threads: &R,
+    meter: &'a Meter,
+    over: &Horizon<'a>,
+    days: (Day, u16),
+    question: &Q,
+    journals: Journals<'a, '_>,
+) -> Result<(), Refusal<'a>>
+    requires first { IsOfCentury days.0 }
+    requires days { (1 ≤ days.1) × (days.1 ≤ 366) }
+{
+    match journals {
+        Journals::One(journal, is_open) => {
+            page_of(rt, threads, meter, over, days, question, journal, is_open)
+        }
+        Journals::Shards(first, others) => shards_asked(
+            rt, threads, meter, over, days, question, first, others, true,
+        ),
     }
 }
 
@@ -180,8 +251,7 @@ fn loaded<'a, R: Threads + Sync>(
     days: (Day, u16),
     loads: LoadsOf,
     form: Option<Form>,
-    journal: Option<&'a str>,
-    is_open: bool,
+    journals: Journals<'a, '_>,
 ) -> Result<(), Refusal<'a>>
     requires first { IsOfCentury days.0 }
     requires days { (1 ≤ days.1) × (days.1 ≤ 366) }
@@ -189,11 +259,9 @@ fn loaded<'a, R: Threads + Sync>(
     match form {
         Some(form) => {
             let table = LoadTable { loads };
-            tabled(
-                rt, threads, meter, over, days, &table, form, journal, is_open,
-            )
+            tabled(rt, threads, meter, over, days, &table, form, journals)
         }
-        None => asked_of(rt, threads, meter, over, days, &loads, journal, is_open),
+        None => put(rt, threads, meter, over, days, &loads, journals),
     }
 }
 
@@ -207,8 +275,7 @@ fn summed<'a, R: Threads + Sync>(
     loads: LoadsOf,
     by: By,
     form: Form,
-    journal: Option<&'a str>,
-    is_open: bool,
+    journals: Journals<'a, '_>,
 ) -> Result<(), Refusal<'a>>
     requires first { IsOfCentury days.0 }
     requires days { (1 ≤ days.1) × (days.1 ≤ 366) }
@@ -216,33 +283,23 @@ fn summed<'a, R: Threads + Sync>(
     match by {
         By::EachLeg => {
             let table = LegSums { loads };
-            tabled(
-                rt, threads, meter, over, days, &table, form, journal, is_open,
-            )
+            tabled(rt, threads, meter, over, days, &table, form, journals)
         }
         By::EachDay => {
             let table = DaySums { loads };
-            tabled(
-                rt, threads, meter, over, days, &table, form, journal, is_open,
-            )
+            tabled(rt, threads, meter, over, days, &table, form, journals)
         }
         By::EachFlight => {
             let table = FlightSums { loads };
-            tabled(
-                rt, threads, meter, over, days, &table, form, journal, is_open,
-            )
+            tabled(rt, threads, meter, over, days, &table, form, journals)
         }
         By::EachPair => {
             let table = PairSums { loads };
-            tabled(
-                rt, threads, meter, over, days, &table, form, journal, is_open,
-            )
+            tabled(rt, threads, meter, over, days, &table, form, journals)
         }
         By::EachClass => {
             let table = ClassSums { loads };
-            tabled(
-                rt, threads, meter, over, days, &table, form, journal, is_open,
-            )
+            tabled(rt, threads, meter, over, days, &table, form, journals)
         }
     }
 }
@@ -267,17 +324,8 @@ pub fn bookings<'a, R: Threads + Sync>(
     match form {
         Some(form) => {
             let table = BookingTable { wanted };
-            tabled(
-                rt,
-                threads,
-                meter,
-                over,
-                days,
-                &table,
-                form,
-                journal,
-                asked.is_open,
-            )
+            let journals = Journals::One(journal, asked.is_open);
+            tabled(rt, threads, meter, over, days, &table, form, journals)
         }
         None => asked_of(
             rt,
@@ -292,7 +340,7 @@ pub fn bookings<'a, R: Threads + Sync>(
     }
 }
 
-/// Who waits, on the flights and the day that are asked for.
+/// Who waits, on the flights and the day that are asked for; with `--shards` of all the journals.
 pub fn waiting<'a, R: Threads + Sync>(
     rt: &HostRuntime,
     threads: &R,
@@ -306,33 +354,22 @@ pub fn waiting<'a, R: Threads + Sync>(
         flight: flight_asked(asked.flight)?,
         day: day_asked(asked.day)?,
     };
-    let journal = Some(asked.journal);
+    let journals = journals_asked(
+        asked.are_shards,
+        asked.is_open,
+        Some(asked.journal),
+        asked.others.as_slice(),
+    )?;
     let form = form_asked(asked.shape, false)?;
     match form {
         Some(form) => {
             let table = WaitingTable { wanted };
-            tabled(
-                rt,
-                threads,
-                meter,
-                over,
-                days,
-                &table,
-                form,
-                journal,
-                asked.is_open,
-            )
+            tabled(rt, threads, meter, over, days, &table, form, journals)
         }
-        None => asked_of(
-            rt,
-            threads,
-            meter,
-            over,
-            days,
-            &WaitingOf { wanted },
-            journal,
-            asked.is_open,
-        ),
+        None => {
+            let question = WaitingOf { wanted };
+            put(rt, threads, meter, over, days, &question, journals)
+        }
     }
 }
 
@@ -448,9 +485,8 @@ pub fn history<'a, R: Threads + Sync>(
     match form {
         Some(form) => {
             let table = HistoryTable { wanted };
-            tabled(
-                rt, threads, meter, over, days, &table, form, journal, is_open,
-            )
+            let journals = Journals::One(journal, is_open);
+            tabled(rt, threads, meter, over, days, &table, form, journals)
         }
         None => {
             let question = HistoryOf { wanted };
@@ -477,12 +513,11 @@ fn tabled<'a, R: Threads + Sync, T: Table>(
     days: (Day, u16),
     table: &T,
     form: Form,
-    journal: Option<&'a str>,
-    is_open: bool,
+    journals: Journals<'a, '_>,
 ) -> Result<(), Refusal<'a>>
     requires first { IsOfCentury days.0 }
     requires days { (1 ≤ days.1) × (days.1 ≤ 366) }
 {
     let question = TableOf { asked: table, form };
-    asked_of(rt, threads, meter, over, days, &question, journal, is_open)
+    put(rt, threads, meter, over, days, &question, journals)
 }

@@ -1,4 +1,4 @@
-//! `audit --shards`: the journals of hosts that have different flights over one set and its limits.
+//! `--shards`: the journals of hosts that have different flights over one set and its limits, audited, or asked as one.
 //! It knows which words name them, and nothing of what is in them.
 ghost use Rattle.std.specs.Prelude.{◌≡◌, ◌≤◌, IfOk};
 ghost use Rattle.ssim_flights.specs.Right.{IsOfCentury};
@@ -6,10 +6,11 @@ ghost use Rattle.ssim_flights.specs.Right.{IsOfCentury};
 use airline_base::Day;
 use command_inputs::{days_of, inputs_of, meter_each, meter_inputs};
 use progress_meter::{Lines, Meter};
-use seat_desk::{DeskFault, Inputs};
+use seat_desk::{DeskFault, Inputs, Question};
 use seat_files::{Input, Output, Refusal, metered_output, taken};
 use seat_shards::{ShardFault, desk_shards};
-use seat_words::{AuditJob, WordFault};
+use seat_words::{AuditJob, Horizon, WordFault};
+use shard_questions::answer_shards;
 use std::thread::Threads;
 
 /// Audits the journals that are named.
@@ -24,7 +25,7 @@ pub fn audit_shards<'a, R: Threads + Sync>(
     if !is_plain(asked) {
         return Err(Refusal::from(WordFault::BadShards));
     }
-    let shards = match shards_opened(rt, asked, days) {
+    let shards = match shards_opened(rt, over, days, asked.journal, asked.scripts.as_slice()) {
         Ok(shards) => shards,
         Err(refusal) => return Err(refusal),
     };
@@ -35,6 +36,71 @@ pub fn audit_shards<'a, R: Threads + Sync>(
     let mut out = metered_output(rt, meter);
     let outcome = shards_audited(rt, threads, meter, &mut inputs, &mut journals, &mut out);
     noted(outcome, &inputs, journals.as_slice(), &[&out])
+}
+
+/// Answers a question about the journals that are named, as about one of all of them. An answer that is a page is refused where it is
+/// too long.
+pub fn shards_asked<'a, R: Threads + Sync, Q: Question>(
+    rt: &HostRuntime,
+    threads: &R,
+    meter: &'a Meter,
+    over: &Horizon<'a>,
+    days: (Day, u16),
+    question: &Q,
+    first: &'a str,
+    others: &[&'a str],
+    is_page: bool,
+) -> Result<(), Refusal<'a>>
+    requires first { IsOfCentury days.0 }
+    requires days { (1 ≤ days.1) × (days.1 ≤ 366) }
+{
+    let shards = match shards_opened(rt, over, days, first, others) {
+        Ok(shards) => shards,
+        Err(refusal) => return Err(refusal),
+    };
+    let Shards {
+        mut inputs,
+        mut journals,
+    } = shards;
+    let mut out = metered_output(rt, meter);
+    let outcome = shards_answered(
+        rt,
+        threads,
+        meter,
+        question,
+        &mut inputs,
+        &mut journals,
+        &mut out,
+    );
+    match noted(outcome, &inputs, journals.as_slice(), &[&out]) {
+        Ok(()) if is_page && !out.is_used() => Err(Refusal::from(WordFault::LongPage)),
+        Ok(()) => Ok(()),
+        Err(refusal) => Err(refusal),
+    }
+}
+
+fn shards_answered<'a, R: Threads + Sync, Q: Question>(
+    rt: &HostRuntime,
+    threads: &R,
+    meter: &'a Meter,
+    question: &Q,
+    inputs: &mut Inputs<Input<'a>, Input<'a>>,
+    journals: &mut Vec<Input<'a>>,
+    out: &mut Output<'a>,
+) -> Result<(), ShardFault>
+    requires first { IsOfCentury inputs.old.first }
+    requires days { (1 ≤ inputs.old.days) × (inputs.old.days ≤ 366) }
+{
+    meter_inputs(rt, meter, inputs);
+    meter_each(rt, meter, journals, Lines::Ended);
+    answer_shards(
+        threads,
+        rt.alloc(),
+        question,
+        inputs,
+        journals.as_mut_slice(),
+        out,
+    )
 }
 
 fn shards_audited<'a, R: Threads + Sync>(
@@ -62,21 +128,23 @@ struct Shards<'a> {
 
 fn shards_opened<'a>(
     rt: &HostRuntime,
-    asked: &AuditJob<'a>,
+    over: &Horizon<'a>,
     days: (Day, u16),
+    first: &'a str,
+    others: &[&'a str],
 ) -> Result<Shards<'a>, Refusal<'a>>
     ensures first { IfOk result (λ shards. shards.inputs.first ≡ days.0) }
     ensures days { IfOk result (λ shards. shards.inputs.days ≡ days.1) }
 {
-    let inputs = match inputs_of(rt, &asked.over, days) {
+    let inputs = match inputs_of(rt, over, days) {
         Ok(inputs) => inputs,
         Err(refusal) => return Err(refusal),
     };
-    let journals = journals_opened(rt, asked.journal, asked.scripts.as_slice())?;
+    let journals = journals_opened(rt, first, others)?;
     Ok(Shards { inputs, journals })
 }
 
-/// What the audit came to, of the file that it is of.
+/// What it came to, of the file that it is of.
 fn noted<'a>(
     outcome: Result<(), ShardFault>,
     inputs: &Inputs<Input<'a>, Input<'a>>,

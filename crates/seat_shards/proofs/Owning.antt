@@ -11,7 +11,9 @@ use Rattle.seat_nesting.specs.Nesting.{Ladders}
 use Rattle.seat_rules.specs.Journal.{FitsWork, IsLegal}
 use Rattle.seat_rules.specs.Prefixes.{Begins}
 use Rattle.seat_parts.proofs.Flights.{fitting_there, nowhere}
+use Rattle.seat_shards.specs.declared.taking.Taken.{Taken}
 use Rattle.seat_shards.specs.Owners.{has_line, owner_at, AreWithin, IsWithin, OwnsLine, OwnsNone, OwnsToo}
+use Rattle.seat_shards.specs.Taking.{HasPlaces}
 
 pub or_false : (b : Bool) → (b || false) ≡ b
 or_false true = refl
@@ -82,6 +84,17 @@ fits_within grid n w fits room = record { below = by (flight_of w) refl } where
   by : (o : Option ℕ) → flight_of w ≡ o → IfSome o (λ f. f < n)
   by None at = tt
   by (Some f) at = omega (arith, fitting_there grid w fits f at, room)
+
+pub places_kept : (flights : ℕ) (old new : Taken) → HasPlaces flights old → length new.owners.items ≡ length old.owners.items
+    → HasPlaces flights new
+places_kept flights old new has same = record { enough = omega (arith, has.enough, same) }
+
+pub places_of : (flights : ℕ) (taken : Taken) → length taken.owners.items ≡ flights → HasPlaces flights taken
+places_of flights taken is = record { enough = omega (arith, is) }
+
+pub places_below : (grid : Ladders) (flights : ℕ) (taken : Taken) → length grid ≤ flights → HasPlaces flights taken
+    → HasPlaces (length grid) taken
+places_below grid flights taken room has = record { enough = omega (arith, room, has.enough) }
 
 pub legal_within : (grid : Ladders) (n : ℕ) (entries : List Entry) → IsLegal grid entries → length grid ≤ n
     → AreWithin n entries

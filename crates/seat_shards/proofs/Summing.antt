@@ -170,7 +170,7 @@ unowned owners (e ∷ xs) f none h = cases (is_owned owners e.work) (is_on f e.w
 
 -- ---- one journal more
 
-texts_push : (texts : List (List ℕ)) (journals : List (List Entry)) (text : List ℕ) (journal : List Entry)
+pub texts_push : (texts : List (List ℕ)) (journals : List (List Entry)) (text : List ℕ) (journal : List Entry)
     → AreTexts texts journals → IsTextOf text journal → AreTexts (texts ++ text ∷ []) (journals ++ journal ∷ [])
 texts_push [] [] text journal k is = (is, tt)
 texts_push [] (j ∷ journals) text journal k is = absurd k
@@ -269,7 +269,7 @@ sum_none grid taken none = record {
   sums = none.totals;
 }
 
-sum_more : (grid : Ladders) (journals : List (List Entry)) (text : List ℕ) (old new : Taken) → IsSum grid journals old
+pub sum_more : (grid : Ladders) (journals : List (List Entry)) (text : List ℕ) (old new : Taken) → IsSum grid journals old
     → (one : IsTakenWith grid old new text) → IsSum grid (journals ++ one.entries ∷ []) new
 sum_more grid journals text old new k one = record {
   shards = shards_push journals one.entries alone grid most_lines k.shards one.read.legal one.read.few;
@@ -368,7 +368,7 @@ shared_same journals owners xs k =
     ap (option_map (λ (e : Entry). (e.number, owner_in owners e.work))) (find_same (λ e. is_owned owners e.work) (λ e. nat_lt 0 (owner_among journals (flight_of e.work))) xs (λ e. ap (nat_lt 0) (owner_same journals owners k (flight_of e.work))))
     ∙ map_same (λ e. (e.number, owner_in owners e.work)) (λ e. (e.number, owner_among journals (flight_of e.work))) (find (λ e. nat_lt 0 (owner_among journals (flight_of e.work))) xs) (λ e. ap (λ (n : ℕ). (e.number, n)) (owner_same journals owners k (flight_of e.work)))
 
-refused_behind : (grid : Ladders) (journals : List (List Entry)) (taken : Taken) (text : List ℕ) (fault : ShardFault)
+pub refused_behind : (grid : Ladders) (journals : List (List Entry)) (taken : Taken) (text : List ℕ) (fault : ShardFault)
     → IsSum grid journals taken → RefusesMore grid taken fault text → RefusesBehind grid journals text fault
 refused_behind grid journals taken text (Desk fault) k r = r
 refused_behind grid journals taken text (Journal place fault) k r = (r.0 ∙ ap (λ (n : ℕ). n + 1) k.count, r.1)

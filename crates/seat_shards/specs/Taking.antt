@@ -184,6 +184,10 @@ HasRisenBehind grid before _ _ _ = ⊥
 abbrev pub HasFailedAmong : {D : Type 0} → Ladders → List (Option (List ℕ)) → (D → ℕ) → List D → List D → Type 0
 HasFailedAmong grid texts failures olds news = HasRisenBehind grid [] texts (map failures olds) (map failures news)
 
+-- so many flights have a place among those that journals have
+pub record HasPlaces (flights : ℕ) (taken : Taken) : Type 0 where
+  pub enough : flights ≤ length taken.owners.items
+
 -- no journal is taken yet
 pub record IsNone (taken : Taken) : Type 0 where
   pub owners : OwnsNone taken.owners.items

@@ -104,7 +104,7 @@ fn totalled<R: Threads + Sync, S: NotedRead, L: NotedRead, J: NotedRead>(
 }
 
 // What the journals come to over the loaded grid. The flights and the rows are dropped first.
-#[tactic(auto, using(crate::proofs::Summing::all_totalled, crate::proofs::Summing::one_refused, crate::proofs::Summing::one_failed))]
+#[tactic(auto, using(crate::proofs::Summing::all_totalled, crate::proofs::Summing::one_refused, crate::proofs::Summing::one_failed, crate::proofs::Owning::places_below))]
 fn totalled_over<R: Threads + Sync, J: NotedRead>(
     rt: &R,
     alloc: Global,

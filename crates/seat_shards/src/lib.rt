@@ -1,4 +1,4 @@
-//! Journals of hosts that have different flights over the same set and limits, audited one behind the other.
+//! Journals of hosts that have different flights over the same set and limits, read and audited one behind the other.
 //! It knows on which flights a journal has lines, and nothing of how a line is answered.
 #![tactic(auto)]
 
@@ -10,3 +10,4 @@ mod taking;
 
 pub use auditing::desk_shards;
 pub use fault::ShardFault;
+pub use taking::{Taken, take_one};

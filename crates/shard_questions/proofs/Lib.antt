@@ -1,0 +1,6 @@
+mod Asking
+mod Carrying
+mod Grounds
+mod Joined
+mod Steps
+mod Stopped
