@@ -1,11 +1,12 @@
 #!/usr/bin/env python3
 """Times an open host (`serve`) over named pipes, and prints a table for docs/BENCHMARKS.md.
 
-    benches/serving.py FOLDER [--program FILE] [--seconds N] [--flights N] [--lines N]
+    benches/serving.py FOLDER [--program FILE] [--seconds N] [--flights N] [--lines N] [--days]
 
 FOLDER is on the disk that is measured; a second table is of /dev/shm, where a sync costs nothing. Over a season of N dated flights (93,000) by benches/season.py and limits
 by benches/journal.py: what a sync of one line costs there; one desk with one line in flight; eight desks with 32 lines each in flight; looks of
-a ninth client, one in flight, in a process of its own, while eight desks book; how long a host takes from its start to the first READY over a journal of N lines (900,000), beside `audit` of it.
+a ninth client, one in flight, in a process of its own, while eight desks book; looks at a whole day, one in flight, by a desk on standard input and by one on a pipe, with nothing beside them; how long a host takes
+from its start to the first READY over a journal of N lines (900,000), beside `audit` of it.
 Each reply is read and counted by the clients; replies a second are over the time from the first line sent to the last reply read.
 """
 import argparse
@@ -194,6 +195,66 @@ def first_pair(inputs):
         return next((line[36:39] + line[54:57]).encode() for line in it if line[0] == "3")
 
 
+class Standard:
+    """The desk of a host on standard input and output."""
+
+    def __init__(self, program, inputs, folder):
+        self.rest = b""
+        self.it = subprocess.Popen(
+            [program, "serve", *OVER, "--today", "2024-05-01", "--journal", f"{folder}/journal-day", "--desk", "-"],
+            cwd=inputs, stdin=subprocess.PIPE, stdout=subprocess.PIPE, bufsize=0,
+        )
+        atexit.register(self.it.kill)
+        while not self.lines():
+            pass
+
+    def send(self, data):
+        self.it.stdin.write(data)
+
+    def lines(self):
+        self.rest += self.it.stdout.read(65536)
+        *whole, self.rest = self.rest.split(b"\n")
+        return whole
+
+    def end(self):
+        self.it.stdin.close()
+        if self.it.wait(120):
+            sys.exit("the host ended badly")
+
+
+def day_looks(client, line, count):
+    """The time of each of so many looks, and how many lines one is answered by, which a wrong word behind the first tells."""
+    client.send(line + b"?END\n")
+    answer = []
+    while not any(it.startswith(b"FAULT H2 ") for it in answer):
+        answer += client.lines()
+    lines, taken = len(answer) - 1, []
+    for _ in range(count):
+        sent, left = time.monotonic(), lines
+        client.send(line)
+        while left > 0:
+            left -= len(client.lines())
+        taken.append(time.monotonic() - sent)
+    return taken, lines
+
+
+def days(program, inputs, folder):
+    """Looks at a whole day, by a desk on standard input and by one on a pipe."""
+    line = b"? 10JUN %s\n" % first_pair(inputs)
+    print(f"| A look at a whole day, on {folder} | Lines | Median | 99 of 100 within |\n|---|---|---|---|")
+    desk = Standard(program, inputs, folder)
+    found = [("on standard input", *day_looks(desk, line, 2000))]
+    desk.end()
+    host = Host(program, inputs, folder, "journal-day", 1)
+    host.started()
+    found.append(("on a pipe", *day_looks(host.clients[1], line, 2000)))
+    host.end()
+    for where, taken, lines in found:
+        print(f"| {where} | {lines} | {percentile(taken, 0.5):.3f} ms | {percentile(taken, 0.99):.3f} ms |")
+    for left in ("", ".seal"):
+        os.unlink(f"{folder}/journal-day{left}")
+
+
 def starts(program, inputs, folder):
     taken = {"audit": [], "serve": []}
     for _ in range(3):
@@ -217,12 +278,18 @@ def main():
     words.add_argument("--seconds", type=float, default=5.0)
     words.add_argument("--flights", type=int, default=93_000)
     words.add_argument("--lines", type=int, default=900_000)
+    words.add_argument("--days", action="store_true", help="the looks at a whole day alone")
     asked = words.parse_args()
     program, inputs = os.path.abspath(asked.program), os.path.abspath(asked.folder)
     write_inputs(inputs, asked.flights, asked.lines)
     memory = tempfile.mkdtemp(dir="/dev/shm")
+    if asked.days:
+        days(program, inputs, memory)
+        shutil.rmtree(memory)
+        return
     for folder in (inputs, memory):
         table(program, inputs, folder, asked)
+    days(program, inputs, memory)
     starts(program, inputs, inputs)
     shutil.rmtree(memory)
 

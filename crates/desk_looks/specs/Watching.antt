@@ -88,6 +88,12 @@ abbrev pub IsWaitedFor : Bool → Desk → Desk → ℕ → List ℕ → Bool �
 IsWaitedFor true old new today line awaited = IsWordHeard old new today line awaited
 IsWaitedFor false old new today line awaited = (awaited ≡ false) × (new ≡ old)
 
+-- so it is of each line that is read there
+abbrev pub IsWatchedWord : Desk → Desk → ℕ → List ℕ → Watched → Type 0
+IsWatchedWord old new today line (Told text) = ⊥
+IsWatchedWord old new today line Heard = IsWaitedFor (begins_word line) old new today line false
+IsWatchedWord old new today line Awaited = IsWaitedFor (begins_word line) old new today line true
+
 -- a line that waits for the host whatever it is
 abbrev pub IsHeardOnly : Bool → Looking → Looking → ℕ → List ℕ → Bool → Type 0
 IsHeardOnly true old new today line awaited = IsPassedWord old new today line awaited

@@ -125,6 +125,8 @@ impl<'a> Lookout<'a> {
 }
 
 impl<'a> Watch for Lookout<'a> {
+    ghost hears = { λ old new today lines line watched. IsWatched (begins_word line) old new today lines line watched };
+
     fn watch(&mut self, today: Day, lines: u32, line: &[u8]) -> Watched {
         self.hear(today, lines, line)
     }

@@ -2,7 +2,7 @@
 ghost use Rattle.std.specs.Prelude.{◌≡◌};
 ghost use Rattle.airline_base.specs.Days.{IsCenturyDay};
 ghost use Rattle.desk_answers.specs.Saying.{HasHeard};
-ghost use Rattle.desk_looks.specs.Watching.{begins_word, is_again, IsWaitedFor};
+ghost use Rattle.desk_looks.specs.Watching.{begins_word, is_again, IsWaitedFor, IsWatchedWord};
 
 use crate::lookout::{begins_word, is_again};
 use airline_base::Day;
@@ -56,6 +56,8 @@ impl Words {
 }
 
 impl Watch for Words {
+    ghost hears = { λ old new today lines line watched. IsWatchedWord old new today line watched };
+
     fn watch(&mut self, today: Day, _lines: u32, line: &[u8]) -> Watched {
         if self.hear(today, line) {
             return Watched::Awaited;

@@ -1,5 +1,5 @@
 -- Lines that wait for the host, and texts that wait for a desk.
-use Rattle.std.specs.Prelude.{◌≡◌, ◌<◌, ◌-◌, ℕ, ◌==◌, ◌&&◌, Bool, true, false, not, nat_le, nat_lt, List, [], ◌∷◌, ◌++◌, codes, get_or, length, set, Option, Some, None}
+use Rattle.std.specs.Prelude.{◌≡◌, ◌<◌, ◌+◌, ◌-◌, ℕ, ◌==◌, ◌&&◌, Bool, true, false, not, nat_le, nat_lt, List, [], ◌∷◌, ◌++◌, codes, get_or, length, set, slice_get, Option, Some, None}
 use Rattle.desk_pipes.specs.Watching.{one_more}
 use Rattle.desk_pipes.specs.declared.inbox.Said.{Said}
 
@@ -67,6 +67,30 @@ pub record Posted : Type 0 where
   pub session : ℕ
   pub text : List ℕ
 
+-- letters that go to their desks one behind the other: the first of them are delivered, so many
+pub record Sent (X : Type 0) : Type 0 where
+  pub letters : List X
+  pub delivered : ℕ
+
+-- the next of them is
+abbrev pub IsFurther : {X : Type 0} → Sent X → Sent X → Type 0
+IsFurther old new = (new.letters ≡ old.letters) × (new.delivered ≡ old.delivered + 1)
+
+abbrev pub session_of : {X : Type 0} → (X → Posted) → Option X → ℕ
+session_of posted None = 0
+session_of posted (Some letter) = (posted letter).session
+
+abbrev pub text_of : {X : Type 0} → (X → Posted) → Option X → List ℕ
+text_of posted None = []
+text_of posted (Some letter) = (posted letter).text
+
+-- to whom the next of them goes, and what it says
+abbrev pub next_session : {X : Type 0} → (X → Posted) → Sent X → ℕ
+next_session posted sent = session_of posted (slice_get sent.letters sent.delivered)
+
+abbrev pub next_text : {X : Type 0} → (X → Posted) → Sent X → List ℕ
+next_text posted sent = text_of posted (slice_get sent.letters sent.delivered)
+
 -- whether a piece more may wait for a session's desk
 pub record Roomed : Type 0 where
   pub session : ℕ
@@ -75,6 +99,10 @@ pub record Roomed : Type 0 where
 -- the outbox of each session's desk stands at its number
 pub record AreNumbered (sessions : List ℕ) : Type 0 where
   pub at : (n : ℕ) → n < length sessions → get_or sessions n 0 ≡ n
+
+-- whether there are no bytes
+abbrev pub are_none : List ℕ → Bool
+are_none bytes = length bytes == 0
 
 -- whether something is to be written for a desk: where nobody writes nothing is
 abbrev pub is_owed : Bool → Bool → List ℕ → Bool

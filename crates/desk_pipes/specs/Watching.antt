@@ -1,7 +1,5 @@
 -- Lines that are answered where they are read.
 use Rattle.std.specs.Prelude.{ℕ, ◌+◌, ◌-◌, ◌^◌, min, Bool, true, false}
-use Rattle.desk_pipes.specs.declared.watch.Watched.{Watched}
-use Rattle.desk_pipes.specs.declared.watch.Watched.TheVariants.{Told, Heard, Awaited}
 
 -- the day on which lines are read, and how many lines of the journal are told
 pub record Outlooked : Type 0 where
@@ -16,9 +14,3 @@ one_more n = min (n + 1) (2 ^ 32 - 1)
 abbrev pub passed_behind : Bool → ℕ → ℕ
 passed_behind true passed = one_more passed
 passed_behind false passed = 0
-
--- a line is answered where it is read
-abbrev pub is_told : Watched → Bool
-is_told (Told text) = true
-is_told Heard = false
-is_told Awaited = false

@@ -21,20 +21,28 @@ pub trait Letter {
 
 /// What answers a line of a session's desk where it was read.
 #[derive(Drop)]
-pub(crate) struct Answer<'a> {
-    pub(crate) session: u8,
-    pub(crate) text: &'a [u8],
+pub struct Answer {
+    session: u8,
+    text: Vec<u8>,
 }
 
-impl<'a> Model for Answer<'a> {
+impl Model for Answer {
     ghost use Rattle.desk_pipes.specs.Waiting.{Posted};
 
     ghost Value = { Posted };
 
-    ghost view = { λ s. record { session = s.session; text = s.text.now } };
+    ghost view = { λ s. record { session = s.session; text = s.text.items } };
 }
 
-impl<'a> Letter for Answer<'a> {
+impl Answer {
+    pub(crate) fn new(session: u8, text: Vec<u8>) -> Answer
+        ensures { (result.session ≡ session) × (result.text ≡ text.items) }
+    {
+        Answer { session, text }
+    }
+}
+
+impl Letter for Answer {
     ghost posted = { λ s. s };
 
     fn session(&self) -> u8 {
@@ -42,6 +50,6 @@ impl<'a> Letter for Answer<'a> {
     }
 
     fn text(&self) -> &[u8] {
-        self.text
+        self.text.as_slice()
     }
 }

@@ -12,18 +12,20 @@ mod outboxes;
 mod outlook;
 mod pipe_file;
 mod post;
+mod text;
 mod threads;
 mod watch;
 
 pub use cutting::HeldLine;
 pub use inbox::{Inbox, Said, Taken};
-pub use letter::Letter;
+pub use letter::{Answer, Letter};
 pub use mark::Mark;
-pub use outbox::{Outbox, Room};
+pub use outbox::Outbox;
 pub use outlook::{LooksGoBy, Outlook};
 pub use pipe_file::{
     PipeFault, PipeId, Role, Unopened, are_swapped, fault_of, open_pipe, pass_pair,
 };
-pub use post::{Delivered, DeliveredEach, Post};
+pub use post::Post;
+pub use text::{Begun, Delivered, DeliveredEach, Room};
 pub use threads::{mark_pipe, read_desk, start_writer, write_desk};
-pub use watch::{Watch, Watched};
+pub use watch::{Outcome, Watch, Watched};

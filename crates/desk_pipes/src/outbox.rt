@@ -1,166 +1,16 @@
 //! What waits for a desk to be read.
-ghost use Rattle.std.specs.Prelude.{◌≡◌, ◌||◌, [], true, false, not, if◌then◌else◌, OnErr, OnOk};
-ghost use Rattle.desk_pipes.specs.Waiting.{has_room, is_full, is_owed, text_told};
+ghost use Rattle.std.specs.Prelude.{◌≡◌, ◌<◌, length};
+ghost use Rattle.desk_pipes.specs.Waiting.{next_session, IsFurther};
 
 use crate::letter::Letter;
-use std::alloc::{AllocError, Global};
+use crate::text::{Begun, Delivered, Room, Text, Underway};
+use std::alloc::Global;
 use std::marker::Model;
-use std::mem;
 use std::sync::{Condvar, Mutex, Wait};
 use std::time::{Clock, Duration};
 
-/// Where so many bytes wait no more are added until a client says hello.
-const MOST_BYTES: usize = 1_048_576;
-
-/// Where fewer bytes wait a piece more of what is told piece by piece may.
-const MOST_AHEAD: usize = 65_536;
-
 /// How many milliseconds the end of a host waits for what a desk is told to be written.
 const LAST: u64 = 100;
-
-/// What lies under the lock.
-#[derive(Drop)]
-struct Text {
-    bytes: Vec<u8>,
-    /// Whether something was left out.
-    is_lost: bool,
-    /// Whether what was taken is not written yet.
-    is_writing: bool,
-    /// Whether somebody writes what waits.
-    has_writer: bool,
-    /// Whether somebody waits for room.
-    is_awaited: bool,
-    is_over: bool,
-}
-
-impl Text {
-    // Adds a text behind what waits. Where too much does that is said once, and nothing more is added; so it is where memory is wanting.
-    fn add(&mut self, more: &[u8]) -> Result<(), AllocError>
-        ensures text { OnOk result (self.new.bytes.items
-            ≡ text_told self.old.is_lost (is_full self.old.bytes.items) self.old.bytes.items more.now) }
-        ensures lost { OnOk result (self.new.is_lost ≡ (self.old.is_lost || is_full self.old.bytes.items)) }
-        ensures memory { OnErr result ((self.new.bytes.items ≡ self.old.bytes.items) × (self.new.is_lost ≡ true)) }
-    {
-        if self.is_lost {
-            return Ok(());
-        }
-        self.is_lost = true;
-        if self.bytes.len() >= MOST_BYTES {
-            return self.bytes.extend_from_slice(b"FAULT - LOST\n");
-        }
-        self.bytes.extend_from_slice(more)?;
-        self.is_lost = false;
-        Ok(())
-    }
-
-    // Adds what a letter says, in the same way.
-    fn add_letter<L: Letter>(&mut self, letter: &L) -> Result<(), AllocError>
-        ensures text { OnOk result (self.new.bytes.items
-            ≡ text_told self.old.is_lost (is_full self.old.bytes.items) self.old.bytes.items (L.posted letter.now).text) }
-        ensures lost { OnOk result (self.new.is_lost ≡ (self.old.is_lost || is_full self.old.bytes.items)) }
-        ensures memory { OnErr result ((self.new.bytes.items ≡ self.old.bytes.items) × (self.new.is_lost ≡ true)) }
-    {
-        self.add(letter.text())
-    }
-
-    // Adds the last text, where there is room: nothing is added behind it, unless a client begins.
-    fn add_last(&mut self, last: &[u8]) -> Result<(), AllocError>
-        ensures text { OnOk result (self.new.bytes.items
-            ≡ text_told self.old.is_lost (is_full self.old.bytes.items) self.old.bytes.items last.now) }
-        ensures lost { self.new.is_lost ≡ true }
-        ensures memory { OnErr result (self.new.bytes.items ≡ self.old.bytes.items) }
-    {
-        let added = self.add(last);
-        self.is_lost = true;
-        added
-    }
-
-    // Whether a piece more may wait for a session's desk. Where it may not, whoever takes what waits is to wake who asks.
-    fn room(&mut self, session: u8) -> Room
-        ensures own { result.session ≡ session }
-        ensures room { result.is_there ≡ has_room self.old.bytes.items }
-        ensures awaited { self.new.is_awaited ≡ (self.old.is_awaited || not result.is_there) }
-        ensures same { (self.new.bytes ≡ self.old.bytes) × (self.new.is_lost ≡ self.old.is_lost) × (self.new.is_over ≡ self.old.is_over) }
-    {
-        if self.bytes.len() < MOST_AHEAD {
-            return Room {
-                session,
-                is_there: true,
-            };
-        }
-        self.is_awaited = true;
-        Room {
-            session,
-            is_there: false,
-        }
-    }
-
-    // All that waits, in its order. What `bytes` had is given up, and does not wait again. Whether somebody waits for room.
-    fn hand_over(&mut self, bytes: &mut Vec<u8>) -> bool
-        ensures all { bytes.new ≡ self.old.bytes }
-        ensures none { self.new.bytes.items ≡ [] }
-        ensures awaited { result ≡ self.old.is_awaited }
-        ensures served { self.new.is_awaited ≡ false }
-    {
-        bytes.clear();
-        mem::swap(&mut self.bytes, bytes);
-        self.is_writing = true;
-        let is_awaited = self.is_awaited;
-        self.is_awaited = false;
-        is_awaited
-    }
-
-    // A client begins: where something was left out, what waits is of no use to it.
-    fn begin(&mut self)
-        ensures text { self.new.bytes.items ≡ (if self.old.is_lost then [] else self.old.bytes.items) }
-        ensures whole { self.new.is_lost ≡ false }
-    {
-        if self.is_lost {
-            self.bytes.clear();
-        }
-        self.is_lost = false;
-    }
-
-    // Whether something is to be written, and somebody writes it.
-    fn is_owed(&self) -> bool
-        ensures { result ≡ is_owed self.now.has_writer self.now.is_writing self.now.bytes.items }
-    {
-        self.has_writer && (self.is_writing || !self.bytes.is_empty())
-    }
-}
-
-/// Whether a piece more may wait for a session's desk. Only who asks its outbox has it.
-#[derive(Drop)]
-pub struct Room {
-    session: u8,
-    is_there: bool,
-}
-
-impl Model for Room {
-    ghost use Rattle.desk_pipes.specs.Waiting.{Roomed};
-
-    ghost Value = { Roomed };
-
-    ghost view = { λ s. record { session = s.session; is_there = s.is_there } };
-}
-
-impl Room {
-    /// There is none for a session that no desk has.
-    pub(crate) fn nowhere(session: u8) -> Room
-        ensures { (result.session ≡ session) × (result.is_there ≡ false) }
-    {
-        Room {
-            session,
-            is_there: false,
-        }
-    }
-
-    pub fn is_there(&self) -> bool
-        ensures { result ≡ self.now.is_there }
-    {
-        self.is_there
-    }
-}
 
 /// A text waits in it under a lock, for the desk of one session.
 #[derive(Drop)]
@@ -186,25 +36,32 @@ impl Outbox {
     {
         Outbox {
             session,
-            text: Mutex::new(Text {
-                bytes: Vec::new(alloc),
-                is_lost: false,
-                is_writing: false,
-                has_writer: false,
-                is_awaited: false,
-                is_over: false,
-            }),
+            text: Mutex::new(Text::none(alloc)),
             came: Condvar::new(),
             written: Condvar::new(),
         }
     }
 
-    /// Lets a letter to its session's desk wait. It waits for nobody.
-    pub fn tell<R: Wait, L: Letter>(&self, rt: &R, letter: &L)
-        requires own { (L.posted letter.now).session ≡ self.now }
+    /// Lets a letter to its session's desk wait, once. It waits for nobody, and comes back as delivered.
+    pub(crate) fn tell<R: Wait, L: Letter + Drop>(&self, rt: &R, letter: L) -> Delivered<L>
+        requires own { (L.posted letter).session ≡ self.now }
+        ensures { result ≡ letter }
     {
         let mut text = self.text.lock(rt);
-        let _ = text.add_letter(letter);
+        let (delivered, _) = text.add_letter(letter);
+        drop(text);
+        self.came.notify_one();
+        delivered
+    }
+
+    /// Lets the next of letters that are on their way wait so, one to its session's desk.
+    pub(crate) fn tell_next<R: Wait, L: Letter + Drop>(&self, rt: &R, underway: &mut Underway<L>)
+        requires own { next_session L.posted underway.old ≡ self.now }
+        requires more { underway.old.delivered < length underway.old.letters }
+        ensures further { IsFurther underway.old underway.new }
+    {
+        let mut text = self.text.lock(rt);
+        let _ = text.add_next(underway);
         drop(text);
         self.came.notify_one();
     }
@@ -217,11 +74,14 @@ impl Outbox {
         self.came.notify_one();
     }
 
-    /// A client begins.
-    pub fn begin<R: Wait>(&self, rt: &R) {
+    /// A client of its session's desk begins.
+    pub(crate) fn begin<R: Wait>(&self, rt: &R) -> Begun
+        ensures own { result ≡ self.now }
+    {
         let mut text = self.text.lock(rt);
-        text.begin();
+        let begun = text.begin(self.session);
         drop(text);
+        begun
     }
 
     /// Whether a piece more may wait. Where it may not, `take` says so.
@@ -237,9 +97,7 @@ impl Outbox {
     /// Waits for a text, and takes it. What `bytes` had is given up. Nothing is taken where all is over. Whether somebody waits for room.
     pub fn take<R: Wait>(&self, rt: &R, bytes: &mut Vec<u8>) -> bool {
         let guard = self.text.lock(rt);
-        let mut text = self
-            .came
-            .wait_while(rt, guard, |text| text.bytes.is_empty() && !text.is_over);
+        let mut text = self.came.wait_while(rt, guard, |text| text.is_to_come());
         let is_awaited = text.hand_over(bytes);
         drop(text);
         is_awaited
@@ -248,14 +106,14 @@ impl Outbox {
     /// Somebody writes what waits, up to the end of the host or of the pipe.
     pub(crate) fn begin_writing<R: Wait>(&self, rt: &R) {
         let mut text = self.text.lock(rt);
-        text.has_writer = true;
+        text.set_writer(true);
         drop(text);
     }
 
     /// Nobody does any more.
     pub(crate) fn end_writing<R: Wait>(&self, rt: &R) {
         let mut text = self.text.lock(rt);
-        text.has_writer = false;
+        text.set_writer(false);
         drop(text);
         self.written.notify_all();
     }
@@ -263,7 +121,7 @@ impl Outbox {
     /// What was taken is written.
     pub fn written<R: Wait>(&self, rt: &R) {
         let mut text = self.text.lock(rt);
-        text.is_writing = false;
+        text.written();
         drop(text);
         self.written.notify_all();
     }
@@ -283,7 +141,7 @@ impl Outbox {
     /// Nothing more is told.
     pub fn end<R: Wait>(&self, rt: &R) {
         let mut text = self.text.lock(rt);
-        text.is_over = true;
+        text.end();
         drop(text);
         self.came.notify_one();
     }

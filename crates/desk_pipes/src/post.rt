@@ -1,45 +1,21 @@
-//! The inbox of all desks and the outbox of each. A letter goes into the outbox of its own session, and a text that is no letter into none, but for a last one, which
-//! goes into each.
-ghost use Rattle.std.specs.Prelude.{◌≡◌, IfSome};
+//! The inbox of all desks and the outbox of each. A letter goes into the outbox of its own session, once, and a text that is no letter into none, but for a last one,
+//! which goes into each.
+ghost use Rattle.std.specs.Prelude.{◌≡◌, ◌<◌, length, IfSome};
 ghost use Rattle.airline_base.specs.Days.{IsCenturyDay};
+ghost use Rattle.desk_pipes.specs.Answering.{IsAnsweredBy, IsOutcome};
+ghost use Rattle.desk_pipes.specs.Waiting.{IsFurther};
 
 use crate::inbox::Inbox;
 use crate::letter::{Answer, Letter};
-use crate::outbox::{Outbox, Room};
+use crate::outbox::Outbox;
 use crate::outboxes::Outboxes;
 use crate::outlook::{LooksGoBy, Outlook};
-use crate::watch::{Watch, Watched};
+use crate::text::{Begun, Delivered, DeliveredEach, Room, Underway};
+use crate::watch::{Outcome, Watch, Watched};
 use airline_base::{Day, Memory};
 use std::alloc::Global;
-use std::marker::Model;
 use std::sync::{Mutex, Wait};
 use std::time::Clock;
-
-/// A letter that waits for its session's desk. Only who delivers it has it.
-#[derive(Drop)]
-pub struct Delivered<L: Letter + Drop> {
-    letter: L,
-}
-
-impl<L: Letter + Drop> Model for Delivered<L> {
-    ghost Value = { L };
-
-    ghost view = { λ s. s.letter };
-}
-
-/// Letters that wait, each for its own session's desk. Only who delivers them has them.
-#[derive(Drop)]
-pub struct DeliveredEach<L: Letter + Drop> {
-    letters: Vec<L>,
-}
-
-impl<L: Letter + Drop> Model for DeliveredEach<L> {
-    ghost use Rattle.std.specs.Prelude.{List};
-
-    ghost Value = { List L };
-
-    ghost view = { λ s. s.letters.items };
-}
 
 /// What the host and the desks share.
 #[derive(Drop)]
@@ -66,16 +42,6 @@ impl Post {
         self.outboxes.of(session)
     }
 
-    // Lets a letter wait, if it says anything.
-    fn tell<R: Wait, L: Letter>(&self, rt: &R, letter: &L) {
-        if letter.text().is_empty() {
-            return;
-        }
-        if let Some(outbox) = self.outbox(letter.session()) {
-            outbox.tell(rt, letter);
-        }
-    }
-
     /// Lets a last text wait for each desk, and for the manager.
     pub fn tell_each_last<R: Wait>(&self, rt: &R, text: &[u8]) {
         for outbox in self.outboxes.as_slice() {
@@ -93,26 +59,34 @@ impl Post {
         seen
     }
 
-    /// What becomes of a line of a session's desk, where it is read. What answers it waits for the desk ahead of all that the host tells of lines
+    /// What becomes of a line of a session's desk, where it is read. What answers it waits for this very desk, ahead of all that the host tells of lines
     /// that were not told by then, since none of these is told before looks go by it.
-    pub(crate) fn watch_line<R: Wait, W: Watch>(
+    #[tactic(auto, using(crate::proofs::Answers::answered_so))]
+    pub fn watch_line<R: Wait, W: Watch>(
         &self,
         rt: &R,
         session: u8,
         watch: &mut W,
         line: &[u8],
-    ) -> Watched {
+    ) -> Outcome
+        ensures answered { IsAnsweredBy W.hears watch.old watch.new session line.now result }
+    {
         let outlook = self.outlook.lock(rt);
         let watched = watch.watch(outlook.day(), outlook.count(), line);
-        if let Watched::Told(text) = &watched {
-            let answer = Answer {
-                session,
-                text: text.as_slice(),
-            };
-            self.tell(rt, &answer);
-        }
+        let outcome = self.outcome_of(rt, session, watched);
         drop(outlook);
-        watched
+        outcome
+    }
+
+    // What answers a line waits for the desk of its session.
+    fn outcome_of<R: Wait>(&self, rt: &R, session: u8, watched: Watched) -> Outcome
+        ensures { IsOutcome session watched result }
+    {
+        match watched {
+            Watched::Told(text) => Outcome::Answered(self.deliver(rt, Answer::new(session, text))),
+            Watched::Heard => Outcome::Handed,
+            Watched::Awaited => Outcome::HandedAlone,
+        }
     }
 
     /// From then on looks go by this day of the years 2000 to 2099, and by so many lines, which are visible and not told yet.
@@ -136,15 +110,20 @@ impl Post {
         }
     }
 
-    /// Lets a letter wait for its session's desk. It comes back as delivered.
+    /// Lets a letter wait for its session's desk, and for no other, once, unless it says nothing or no desk has that session. It comes back as delivered.
     pub fn deliver<R: Wait, L: Letter + Drop>(&self, rt: &R, letter: L) -> Delivered<L>
         ensures { result ≡ letter }
     {
-        self.tell(rt, &letter);
-        Delivered { letter }
+        if letter.text().is_empty() {
+            return Delivered::of_nothing(letter);
+        }
+        match self.outboxes.of(letter.session()) {
+            Some(outbox) => outbox.tell(rt, letter),
+            None => Delivered::of_nobody(&self.outboxes, letter),
+        }
     }
 
-    /// Lets each of these wait for its own session's desk. They come back as delivered.
+    /// Lets each of these wait so, in their order. They come back as delivered.
     pub fn deliver_each<R: Wait, L: Letter + Drop>(
         &self,
         rt: &R,
@@ -152,16 +131,41 @@ impl Post {
     ) -> DeliveredEach<L>
         ensures { result ≡ letters.items }
     {
-        for letter in &letters {
-            self.tell(rt, letter);
-        }
-        DeliveredEach { letters }
+        let mut underway = Underway::of(letters);
+        self.deliver_all(rt, &mut underway);
+        underway.end()
     }
 
-    /// A client of a session's desk begins.
-    pub fn begin<R: Wait>(&self, rt: &R, session: u8) {
-        if let Some(outbox) = self.outbox(session) {
-            outbox.begin(rt);
+    fn deliver_all<R: Wait, L: Letter + Drop>(&self, rt: &R, underway: &mut Underway<L>)
+        ensures same { underway.new.letters ≡ underway.old.letters }
+        ensures all { underway.new.delivered ≡ length underway.new.letters }
+    {
+        while underway.is_more() {
+            self.deliver_next(rt, underway);
+        }
+    }
+
+    fn deliver_next<R: Wait, L: Letter + Drop>(&self, rt: &R, underway: &mut Underway<L>)
+        requires more { underway.old.delivered < length underway.old.letters }
+        ensures further { IsFurther underway.old underway.new }
+    {
+        if underway.text().is_empty() {
+            underway.pass_nothing();
+            return;
+        }
+        match self.outboxes.of(underway.session()) {
+            Some(outbox) => outbox.tell_next(rt, underway),
+            None => underway.pass_nobody(&self.outboxes),
+        }
+    }
+
+    /// A client of a session's desk begins: its outbox is whole from then on, and where something was left out, what waits there goes to nobody.
+    pub fn begin<R: Wait>(&self, rt: &R, session: u8) -> Begun
+        ensures own { result ≡ session }
+    {
+        match self.outboxes.of(session) {
+            Some(outbox) => outbox.begin(rt),
+            None => Begun::of_nobody(&self.outboxes, session),
         }
     }
 

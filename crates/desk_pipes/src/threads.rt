@@ -1,14 +1,14 @@
 //! The threads of a desk: one reads its lines, one writes what it is told, and one writes a host's mark. What the first runs is here, and who starts it is above.
 ghost use Rattle.std.specs.Prelude.{◌≡◌, ◌≤◌, length, map, OnOk};
 ghost use Rattle.desk_pipes.specs.Cutting.{lines_cut, rest_cut};
-ghost use Rattle.desk_pipes.specs.Watching.{is_told};
+ghost use Rattle.desk_pipes.specs.Answering.{is_answered};
 
 use crate::cutting::{HeldLine, cut_lines};
 use crate::inbox::Said;
 use crate::mark::{Ahead, Mark};
 use crate::outbox::Outbox;
 use crate::post::Post;
-use crate::watch::{Passed, Watch, Watched};
+use crate::watch::{Outcome, Passed, Watch};
 use airline_base::Memory;
 use std::alloc::Global;
 use std::io::{Read, Write};
@@ -173,15 +173,15 @@ fn say_lines<R: Wait, W: Watch>(
     lines: &mut Vec<HeldLine>,
 ) -> bool {
     for line in lines.drain(..) {
-        let watched = post.watch_line(rt, session, watch, line.as_slice());
+        let outcome = post.watch_line(rt, session, watch, line.as_slice());
         if !say(
             rt,
             post,
-            passed.hand_on(session, line, false, is_told(&watched)),
+            passed.hand_on(session, line, false, is_answered(&outcome)),
         ) {
             return false;
         }
-        if let Watched::Awaited = watched {
+        if let Outcome::HandedAlone = outcome {
             post.inbox.settle(rt, session);
         }
     }
@@ -189,13 +189,13 @@ fn say_lines<R: Wait, W: Watch>(
 }
 
 // Whether a line is answered where it was read.
-fn is_told(watched: &Watched) -> bool
-    ensures { result ≡ is_told watched.now }
+fn is_answered(outcome: &Outcome) -> bool
+    ensures { result ≡ is_answered outcome.now }
 {
-    match watched {
-        Watched::Told(_) => true,
-        Watched::Heard => false,
-        Watched::Awaited => false,
+    match outcome {
+        Outcome::Answered(_) => true,
+        Outcome::Handed => false,
+        Outcome::HandedAlone => false,
     }
 }
 

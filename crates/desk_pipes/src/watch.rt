@@ -5,6 +5,8 @@ ghost use Rattle.desk_pipes.specs.Watching.{one_more, passed_behind};
 
 use crate::cutting::HeldLine;
 use crate::inbox::Said;
+use crate::letter::Answer;
+use crate::text::Delivered;
 use airline_base::Day;
 
 /// What becomes of a line that was read.
@@ -18,12 +20,30 @@ pub enum Watched {
     Awaited,
 }
 
+/// What became of it.
+#[derive(Drop)]
+pub enum Outcome {
+    /// Its answer waits for the desk that said it.
+    Answered(Delivered<Answer>),
+    /// It is handed on to the host.
+    Handed,
+    /// It is handed on to the host, and nothing behind it is read until the host has answered it.
+    HandedAlone,
+}
+
 /// Whoever answers lines where they are read.
 pub trait Watch {
+    ghost use Rattle.std.specs.Prelude.{⊤, ℕ, List};
+    ghost use Rattle.desk_pipes.specs.declared.watch.Watched.{Watched};
+
+    // What comes of a line that is heard on a day, where so many lines are told.
+    ghost hears: { Self → Self → ℕ → ℕ → List ℕ → Watched → Type 0 } = { λ old new today lines line watched. ⊤ };
+
     /// What becomes of a line with its end, where lines are read on this day of the years 2000 to 2099, and so many lines of the journal
     /// are told.
     fn watch(&mut self, today: Day, lines: u32, line: &[u8]) -> Watched
-        requires today { IsCenturyDay today };
+        requires today { IsCenturyDay today }
+        ensures heard { hears self.old self.new today lines line.now result };
 
     /// Hears a line that waits for the host whatever it is. Whether nothing behind it is read until the host has answered it.
     fn pass(&mut self, today: Day, line: &[u8]) -> bool

@@ -1,5 +1,6 @@
 -- A host that goes on answering, or fails.
-use Rattle.std.specs.Prelude.{◌≡◌, ℕ, false, Option, List, ◌==◌, ◌&&◌, if◌then◌else◌, Bool, true, [], ◌∷◌}
+use Rattle.std.specs.Prelude.{◌≡◌, ℕ, false, Option, None, Some, List, ◌==◌, ◌&&◌, if◌then◌else◌, Bool, true, [], ◌∷◌, codes, nat_eq}
+use Rattle.std.specs.List.{starts_with}
 use Rattle.airline_base.specs.Noting.{noted}
 use Rattle.desk_answers.specs.Hosts.{IsReady}
 use Rattle.desk_hall.specs.Halls.{Hallful, IsHeardBy, IsOrdered, IsPassed}
@@ -44,3 +45,13 @@ abbrev pub is_apart : List ℕ → Bool
 is_apart [] = false
 is_apart (c ∷ []) = false
 is_apart (c ∷ d ∷ rest) = (c == 63) && (if d == 32 then false else true)
+
+-- a client says hello
+unfoldable pub is_hello : List ℕ → Bool
+is_hello line = starts_with nat_eq line (codes "?HELLO ")
+
+-- for a line that says hello its session's client has begun
+abbrev pub IsBegunFor : Bool → ℕ → Option ℕ → Type 0
+IsBegunFor true session None = ⊥
+IsBegunFor true session (Some begun) = begun ≡ session
+IsBegunFor false session begun = begun ≡ None

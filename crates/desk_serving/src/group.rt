@@ -3,7 +3,7 @@ ghost use Rattle.std.specs.Prelude.{◌≡◌, ◌≤◌, ◌==◌, ◌&&◌, fa
 ghost use Rattle.desk_answers.specs.Hosts.{IsReady};
 ghost use Rattle.desk_hall.specs.Pieces.{backlog_of};
 ghost use Rattle.desk_serving.specs.Daily.{CountsSeal, FailsBy, IsOnDay, IsSealedOn, StaysNamed};
-ghost use Rattle.desk_serving.specs.Going.{is_apart, Fails, GoesOn, IsHeardBehind};
+ghost use Rattle.desk_serving.specs.Going.{is_apart, is_hello, Fails, GoesOn, IsBegunFor, IsHeardBehind};
 ghost use Rattle.desk_serving.specs.Groups.{IsForgotten, IsGroup, IsOne, IsTaken, IsTakenApart, IsTakenUp};
 
 use crate::day::{GroupFault, keep_day};
@@ -13,7 +13,7 @@ use crate::taking::{Taking, goes_on};
 use crate::telling::{answer_heard, answer_last, catch_up};
 use airline_base::Memory;
 use desk_hall::Hall;
-use desk_pipes::{Post, Said};
+use desk_pipes::{Begun, Post, Said};
 use seat_disk::{Replaced, Tape};
 use seat_seal::Sealed;
 use seat_serving::ServeFault;
@@ -90,13 +90,28 @@ fn answer_one<R: Wait, D: Tape, K: Replaced>(
     if let Err(fault) = answer_heard(rt, alloc, hall, post, entry, seals) {
         return Err(GroupFault::Serve(fault));
     }
-    if one.line.as_slice().starts_with(b"?HELLO ") {
-        post.begin(rt, one.session);
-    }
-    hear_apart(rt, alloc, hall, post, closes, one, entry, seals)
+    let begun = begin_for(rt, post, one);
+    hear_apart(rt, alloc, hall, post, closes, one, &begun, entry, seals)
 }
 
-// Hears a line, and answers it, and what is closed behind it, ahead of all behind it.
+// A client that says hello begins: its outbox is whole ahead of its READY.
+fn begin_for<R: Wait>(rt: &R, post: &Post, one: &Said) -> Option<Begun>
+    ensures { IsBegunFor (is_hello one.now.line.items) one.now.session result }
+{
+    if !is_hello(one.line.as_slice()) {
+        return None;
+    }
+    Some(post.begin(rt, one.session))
+}
+
+#[tactic(auto, unfolding(crate::specs::Going::is_hello))]
+fn is_hello(line: &[u8]) -> bool
+    ensures { result ≡ is_hello line.now }
+{
+    line.starts_with(b"?HELLO ")
+}
+
+// Hears a line, and answers it, and what is closed behind it, ahead of all behind it. Where a client says hello it has begun.
 #[tactic(auto, using(crate::proofs::Goes::goes_further, crate::proofs::Goes::fails_behind, crate::proofs::Daily::fails_by_behind, crate::proofs::Daily::sealed_as, crate::proofs::Daily::stays_on, crate::proofs::Daily::on_day_of, crate::proofs::Daily::by_inventory, crate::proofs::Daily::counts_none, crate::proofs::Groups::apart))]
 fn hear_apart<R: Wait, D: Tape, K: Replaced>(
     rt: &R,
@@ -105,11 +120,13 @@ fn hear_apart<R: Wait, D: Tape, K: Replaced>(
     post: &Post,
     closes: bool,
     one: &Said,
+    begun: &Option<Begun>,
     entry: &mut Sealed,
     seals: &mut K,
 ) -> Result<bool, GroupFault>
     requires ready { IsReady D.seen D.may_leave D.unsynced hall.old.serving }
     requires dated { IsOnDay hall.old.today entry.old (K.may_leave seals.old) }
+    requires begun { IsBegunFor (is_hello one.now.line.items) one.now.session begun.now }
     ensures apart { IfOk result (IsTakenApart closes hall.old hall.new one.now) }
     ensures goes { OnOk result (GoesOn D.seen D.may_leave D.unsynced D.failure_count hall.old.serving hall.new.serving) }
     ensures fails { IfErr result (FailsBy D.seen D.may_leave D.unsynced D.failure_count hall.old.serving hall.new.serving) }
@@ -117,6 +134,7 @@ fn hear_apart<R: Wait, D: Tape, K: Replaced>(
     ensures stays { StaysNamed K.may_leave K.kept_may_leave entry.old seals.old seals.new }
     ensures unsealed { IfErr result (CountsSeal K.failure_count seals.old seals.new) }
 {
+    let _ = begun;
     let goes_on = match hear_dated(rt, alloc, hall, post, one, entry, seals) {
         Ok(goes_on) => goes_on,
         Err(fault) => return Err(fault),
