@@ -31,7 +31,7 @@ single_get g n (suc i) (x ∷ xs) =
 pub ladder_past : (grid : Ladders) (flight leg : ℕ) → length (legs_of grid flight) ≤ leg → ladder_at grid flight leg ≡ []
 ladder_past grid flight leg past = ap (λ (o : Option Steps). unwrap_or o []) (slice_get_past (legs_of grid flight) leg past)
 
-ladder_rule : (rule : ℕ → ℕ → Steps) (flights : List Flown) (flight leg : ℕ)
+pub ladder_rule : (rule : ℕ → ℕ → Steps) (flights : List Flown) (flight leg : ℕ)
     → ladder_at (ladders_by rule flights) flight leg ≡ unwrap_or (option_map (λ (x : DatedLeg). rule flight leg) (slice_get (run_of flights flight) leg)) []
 ladder_rule rule flights flight leg =
     ap (λ (o : Option (List Steps)). steps_at (unwrap_or o []) leg) (single_get (λ n (x : Flown). leg_ladders (rule n) x.legs) 0 flight flights)

@@ -9,3 +9,5 @@ pub mod Behind
 pub mod Roomy
 pub mod Promised
 pub mod Told
+pub mod Own
+pub mod Enough

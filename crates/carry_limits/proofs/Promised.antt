@@ -18,7 +18,7 @@ use Rattle.carry_limits.specs.declared.wanting.Seasons.{Seasons}
 use Rattle.carry_limits.proofs.Behind.{all_made, behind_is, each_fits, each_reached}
 use Rattle.carry_limits.proofs.Grids.{lifted_at}
 use Rattle.carry_limits.proofs.Ranked.{lifted_ranks}
-use Rattle.carry_limits.proofs.Roomy.{room_for_all}
+use Rattle.carry_limits.proofs.Roomy.{room_for_all, seats_for_all}
 
 module _ (s : Seasons) (lists : Lists) (lifted : Ladders) (between : List Row) (all : List Change)
     (has : HasLegsOf s.file.now s.flights.now)
@@ -56,7 +56,10 @@ module _ (s : Seasons) (lists : Lists) (lifted : Ladders) (between : List Row) (
 
   pub room : HasRoomBehind s lists all
   room = subst (λ (l : List Change). HasRoomBehind s lists l) (sym value) (record {
+    seats = λ live by_flight placed none.
+        seats_for_all s lists live (limits_behind s.file.now (changes_for s lists)) has
+        (λ flight leg. behind flight leg ∙ lifted_at s lists has flight leg) by_flight placed none;
     room = λ live by_flight apart placed none few.
         room_for_all s lists live (limits_behind s.file.now (changes_for s lists)) has
-        (λ flight leg. behind flight leg ∙ lifted_at s lists has flight leg) by_flight apart placed none few;
+        (λ flight leg. behind flight leg ∙ lifted_at s lists has flight leg) by_flight placed none apart few;
   })

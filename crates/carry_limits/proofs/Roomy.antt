@@ -22,6 +22,7 @@ use Rattle.limit_changes.specs.Laws.{SameRanks}
 use Rattle.limit_changes.specs.Legs.{each_from, named_leg}
 use Rattle.limit_changes.specs.declared.legs.NamedLeg.{NamedLeg}
 use Rattle.carry_limits.specs.ByFlight.{IsByFlight, Lists, list_at}
+use Rattle.carry_limits.specs.Changes.{HasSeatsFor}
 use Rattle.carry_limits.specs.Legs.{HasLegsOf}
 use Rattle.carry_limits.specs.Lifting.{held_on, lifted_limits, lifted_on, waits_on as waiting_on}
 use Rattle.carry_limits.specs.Overs.{all_held, flight_overs, leg_over, most_counted, over_on, overs, seats_at}
@@ -59,7 +60,7 @@ none_here file lists flights flight leg is none =
     subst (λ (n : ℕ). flight_overs file lists n is.flown ≡ []) here (part_none (flight_overs file lists) 0 flight flights is.flown is.flight_at none) in
     subst (λ (n : ℕ). over_on file lists (named_leg flight is.flown n is.run) ≡ []) there (part_none (leg_over file lists flight is.flown) 0 leg is.flown.legs is.run is.leg_at on)
 
-few_here : (file : Ladders) (lists : Lists) (leg : NamedLeg) → over_on file lists leg ≡ [] → all_held file lists leg ≤ seats_at file leg
+pub few_here : (file : Ladders) (lists : Lists) (leg : NamedLeg) → over_on file lists leg ≡ [] → all_held file lists leg ≤ seats_at file leg
 few_here file lists leg none = by (nat_lt (seats_at file leg) (all_held file lists leg)) refl none where
   by : (b : Bool) → nat_lt (seats_at file leg) (all_held file lists leg) ≡ b
       → ◌≡◌ {A = List Over} (if b
@@ -107,10 +108,8 @@ module _ (s : Seasons) (lists : Lists) (live : List Booking) (behind : Ladders)
     (has : HasLegsOf s.file.now s.flights.now)
     (reached : (flight leg : ℕ) → ladder_at behind flight leg ≡ lifted_on s lists flight leg)
     (by_flight : IsByFlight lists (length s.flights.now) live)
-    (apart : IsApart live)
     (placed : AllByRecursion (λ b. sells s.file.now b.place b.class ≡ true) live)
-    (none : overs s.file.now lists s.flights.now ≡ [])
-    (few : (flight leg class : ℕ) → waiting live flight leg class ≤ 999) where
+    (none : overs s.file.now lists s.flights.now ≡ []) where
   abbrev top : ℕ → ℕ → ℕ
   top flight leg = top_of (ladder_at s.file.now flight leg)
 
@@ -151,8 +150,9 @@ module _ (s : Seasons) (lists : Lists) (live : List Booking) (behind : Ladders)
       ap (λ (l : Steps). is_open_on l class) (reached flight leg)
       ∙ same_open (ladder_at s.file.now flight leg) (lifted_on s lists flight leg) class (lifted_ranks s lists flight leg)
 
-  listed : (flight leg class : ℕ) → waiting live flight leg class ≤ wait_of (ladder_at behind flight leg) class
-  listed flight leg class = by (is_open_on (ladder_at s.file.now flight leg) class) refl where
+  listed : ((flight leg class : ℕ) → waiting live flight leg class ≤ 999) → (flight leg class : ℕ)
+      → waiting live flight leg class ≤ wait_of (ladder_at behind flight leg) class
+  listed few flight leg class = by (is_open_on (ladder_at s.file.now flight leg) class) refl where
     nobody : is_open_on (ladder_at s.file.now flight leg) class ≡ false → waiting live flight leg class ≤ wait_of (ladder_at behind flight leg) class
     nobody e = omega (arith, nobody_waits s.file.now flight leg class e live placed)
 
@@ -181,10 +181,13 @@ module _ (s : Seasons) (lists : Lists) (live : List Booking) (behind : Ladders)
     sold bs all.1,
   )
 
-  pub room_for_all : HasRoomFor behind live
-  room_for_all = record {
+  pub seats_for_all : HasSeatsFor behind live
+  seats_for_all = record { placed = sold live placed; within = within }
+
+  pub room_for_all : IsApart live → ((flight leg class : ℕ) → waiting live flight leg class ≤ 999) → HasRoomFor behind live
+  room_for_all apart few = record {
     apart = apart;
     placed = sold live placed;
     within = within;
-    listed = listed;
+    listed = listed few;
   }

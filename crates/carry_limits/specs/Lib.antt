@@ -4,3 +4,4 @@ pub mod Wanting
 pub mod Lifting
 pub mod Overs
 pub mod Changes
+pub mod Laws

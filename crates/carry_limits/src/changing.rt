@@ -1,8 +1,8 @@
 //! The manager's changes that bring the file's limits to the lifted ones.
 //! It knows no line's text.
-ghost use Rattle.std.specs.Prelude.{◌≡◌, [], IfOk, map};
+ghost use Rattle.std.specs.Prelude.{◌≡◌, [], IfOk, OnOk, map};
 ghost use Rattle.std.specs.List.{All};
-ghost use Rattle.limit_changes.specs.Laws.{change_in};
+ghost use Rattle.limit_changes.specs.Laws.{AreLadders, change_in};
 ghost use Rattle.limit_changes.specs.Legs.{every_leg};
 ghost use Rattle.limit_changes.specs.Rows.{rows};
 ghost use Rattle.seat_rules.specs.Journal.{FitsChange};
@@ -35,6 +35,7 @@ pub fn changes_for(
     ensures accepted { IfOk result (λ all. AreAllMade (state_of seasons.now.file.now []) all.items) }
     ensures reached { IfOk result (λ all. AreReached seasons.now by.now all.items) }
     ensures room { IfOk result (λ all. HasRoomBehind seasons.now by.now all.items) }
+    ensures ladders { OnOk result (AreLadders seasons.now.file.now) }
 {
     let lifted = lifted_limits(alloc, seasons, by)?;
     let rows = rows_between(alloc, seasons.flights, seasons.file, &lifted)?;

@@ -4,6 +4,7 @@
 
 mod changing;
 mod counting;
+mod laws;
 mod lifting;
 mod parting;
 mod telling;
@@ -11,6 +12,7 @@ mod wanting;
 
 pub use changing::changes_for;
 pub use counting::{Over, overs};
+pub use laws::{flights_own_bookings_suffice, lifted_limits_have_room};
 pub use lifting::lifted_limits;
 pub use parting::{ByFlight, by_flight};
 pub use telling::put_overs;

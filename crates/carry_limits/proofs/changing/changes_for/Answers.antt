@@ -15,4 +15,5 @@ returns c = record {
       c.in_ok-lifted.ensures.value c.in_ok-lifted.ensures.nested c.in_ok-lifted.ensures.file c.in_ok-rows.ensures (c.in_ok-all.ensures ∙ ap (map change_in) c.deref.ensures.value);
   room = promised.room c.args.seasons.now c.args.by.now _ c.in_ok-rows.rows.items c.in_ok-all.all.items c.requires.legs
       c.in_ok-lifted.ensures.value c.in_ok-lifted.ensures.nested c.in_ok-lifted.ensures.file c.in_ok-rows.ensures (c.in_ok-all.ensures ∙ ap (map change_in) c.deref.ensures.value);
+  ladders = c.in_ok-lifted.ensures.file.nests c.requires.legs;
 }

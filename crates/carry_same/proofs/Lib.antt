@@ -1,0 +1,5 @@
+pub mod Names
+pub mod Limits
+pub mod Full
+pub mod Moves
+pub mod Carrying
