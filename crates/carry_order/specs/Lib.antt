@@ -1,1 +1,3 @@
+pub mod Numbering
 pub mod Ordering
+pub mod Reading

@@ -12,7 +12,7 @@ use Rattle.seat_lists.proofs.LiveTexts.{one_line}
 use Rattle.seat_moving.specs.Moving.{name_of}
 use Rattle.seat_rules.specs.declared.booking.Booking.{Booking}
 use Rattle.carry_reports.specs.Codes.{asked_code, code_of, word_text}
-use Rattle.carry_reports.specs.Lines.{IsAsked, IsAskedPut, IsFatedLine, IsNew, IsNewBy, IsNewPut, IsOld, IsOldPut, IsSegmentPut, segment_of}
+use Rattle.carry_reports.specs.Lines.{IsAsked, IsAskedPut, IsFatedLine, IsNew, IsNewBy, IsNewPut, IsOld, IsOldPut, IsSegmentPut, front_text, in_class, segment_of}
 use Rattle.carry_reports.specs.Reports.{IsReport}
 use Rattle.carry_reports.specs.Sums.{sums_text}
 use Rattle.carry_reports.specs.declared.fating.Asked.{Asked as AskedFor}
@@ -52,20 +52,21 @@ old_put olds b n locator old t1 t2 t3 t4 new code name e1 number e2 e3 own e4 co
 
 -- ---- what it is
 
-three : (o a b c : List ℕ) → ((o ++ a) ++ b) ++ c ≡ o ++ (a ++ b ++ c)
-three o a b c = simp append_assoc
+four : (o a b c d : List ℕ) → (((o ++ a) ++ b) ++ c) ++ d ≡ o ++ (a ++ b ++ c ++ d)
+four o a b c d = simp append_assoc
 
-pub asked_put : (news : List Flown) (b : Booking) (a : AskedFor) (n : ℕ) (old t1 t2 new code : List ℕ) (name : Option Wanted)
-    → t1 ≡ old ++ decimal n → n ≡ a.line → t2 ≡ t1 ++ 32 ∷ [] → code ≡ asked_code b.status a → name ≡ name_of news a.place
-    → IsSegmentPut name b code t2 new → IsAskedPut news b a old new
-asked_put news b a n old t1 t2 new code name e1 number e2 coded named put =
-    let same : IsSegmentPut (name_of news a.place) b (asked_code b.status a) t2 new =
-    subst (λ (o : Option Wanted). IsSegmentPut o b (asked_code b.status a) t2 new) named
-    (subst (λ (k : List ℕ). IsSegmentPut name b k t2 new) coded put) in
+pub asked_put : (news : List Flown) (b there : Booking) (a : AskedFor) (n : ℕ) (old t0 t1 t2 new code : List ℕ) (name : Option Wanted)
+    → t0 ≡ old ++ front_text a.elsewhere → t1 ≡ t0 ++ decimal n → n ≡ a.line → t2 ≡ t1 ++ 32 ∷ [] → code ≡ asked_code b.status a
+    → there ≡ in_class a.class b → name ≡ name_of news a.place → IsSegmentPut name there code t2 new → IsAskedPut news b a old new
+asked_put news b there a n old t0 t1 t2 new code name e0 e1 number e2 coded is_there named put =
+    let same : IsSegmentPut (name_of news a.place) (in_class a.class b) (asked_code b.status a) t2 new =
+    subst (λ (x : Booking). IsSegmentPut (name_of news a.place) x (asked_code b.status a) t2 new) is_there
+    (subst (λ (o : Option Wanted). IsSegmentPut o there (asked_code b.status a) t2 new) named
+    (subst (λ (k : List ℕ). IsSegmentPut name there k t2 new) coded put)) in
     record {
-      part = decimal a.line ++ codes " " ++ same.part;
+      part = front_text a.elsewhere ++ decimal a.line ++ codes " " ++ same.part;
       is_asked = record { segment = same.part; is_segment = same.is_segment; written = refl };
-      written = rw (same.written, e2, e1, number) (three old (decimal a.line) (codes " ") same.part);
+      written = rw (same.written, e2, e1, e0, number) (four old (front_text a.elsewhere) (decimal a.line) (codes " ") same.part);
     }
 
 by_fate : (news : List Flown) (f : Fated) (fate : Fate) (old new text : List ℕ) → f.fate ≡ fate
@@ -101,9 +102,6 @@ new_put news f a b old new fate same put =
     by_fate news f (Asked a) old new put.part fate (subst (λ (x : Booking). IsAsked news x a put.part) same put.is_asked) put.written
 
 -- ---- the line
-
-four : (o a b c d : List ℕ) → (((o ++ a) ++ b) ++ c) ++ d ≡ o ++ (a ++ b ++ c ++ d)
-four o a b c d = simp append_assoc
 
 pub line_put : (olds news : List Flown) (f : Fated) (old t1 t2 t3 new : List ℕ) → IsOldPut olds f.booking old t1 → t2 ≡ t1 ++ 32 ∷ 45 ∷ 62 ∷ 32 ∷ []
     → IsNewPut news f t2 t3 → new ≡ t3 ++ 10 ∷ [] → IsPut (λ n. IsFatedLine olds news) 0 (f ∷ []) old new

@@ -1,4 +1,4 @@
--- The codes of a report (AIRIMP). TK and TL for other legs, HX for want of room and UC for a class that is no more are readings of this project.
+-- The codes of a report (AIRIMP). TK and TL for other legs, another class, or another flight or day, HX for want of room and UC for a class that is no more are readings of this project.
 use Rattle.std.specs.Prelude.{Bool, ℕ, if◌then◌else◌, List, codes, Option, Some, None}
 use Rattle.seat_rules.specs.declared.booking.Status.{Status}
 use Rattle.seat_rules.specs.declared.booking.Status.TheVariants.{Held, Waiting}

@@ -1,16 +1,17 @@
 -- What became of live bookings that were carried to another inventory.
-use Rattle.std.specs.Prelude.{◌≤◌, ℕ, ◌+◌, ◌-◌, ◌==◌, nat_lt, nat_le, Bool, not, ◌||◌, if◌then◌else◌, List, [], ◌∷◌, drop, take, filter, length, slice_get, Option, Some, None}
+use Rattle.std.specs.Prelude.{ℕ, ◌+◌, ◌-◌, ◌==◌, nat_lt, nat_le, Bool, true, not, ◌||◌, if◌then◌else◌, List, [], ◌∷◌, drop, take, length, slice_get, Option, Some, None}
 use Rattle.airline_base.specs.declared.place.Place.{Place}
 use Rattle.ssim_flights.specs.declared.flight.DatedLeg.{DatedLeg}
+use Rattle.ssim_flights.specs.Places.{same_wanted}
 use Rattle.ssim_flights.specs.declared.flight.Flight.{Flight as Flown}
-use Rattle.seat_rules.specs.Bookings.{is_held}
+use Rattle.ssim_flights.specs.declared.flight.Wanted.{Wanted}
 use Rattle.seat_rules.specs.Flights.{bookings_on}
 use Rattle.seat_rules.specs.Inventory.{state_now}
 use Rattle.seat_rules.specs.declared.booking.Booking.{Booking}
 use Rattle.seat_rules.specs.declared.booking.Status.{Status}
 use Rattle.seat_rules.specs.declared.booking.Status.TheVariants as statuses
-use Rattle.seat_carrying.specs.declared.owned.Owned.{Owned}
-use Rattle.seat_moving.specs.Moving.{target}
+use Rattle.carry_order.specs.declared.numbering.Numbered.{Numbered}
+use Rattle.seat_moving.specs.Moving.{name_of, target}
 use Rattle.seat_moving.specs.declared.target.Target.{Target}
 use Rattle.seat_moving.specs.declared.target.Target.TheVariants as targets
 use Rattle.season_changes.specs.Differing.{same_legs as same}
@@ -21,7 +22,6 @@ use Rattle.carry_reports.specs.declared.fating.Fate.TheVariants.{Departed, Unser
 use Rattle.carry_reports.specs.declared.fating.Fated.{Fated}
 use Rattle.carry_reports.specs.declared.fating.Outcome.{Outcome}
 use Rattle.carry_reports.specs.declared.fating.Outcome.TheVariants as outcomes
-use Rattle.carry_reports.specs.declared.fating.Turn.{Turn}
 
 -- ---- legs
 
@@ -40,6 +40,17 @@ legs_at flights p = legs_between p.from (p.to + 1) (legs_by (slice_get flights p
 abbrev pub has_changed : Carried → Place → Place → Bool
 has_changed c old new = not (same (legs_at c.olds.now old) (legs_at c.news.now new))
 
+-- ---- names
+
+abbrev pub is_other_name : Option Wanted → Option Wanted → Bool
+is_other_name None new = true
+is_other_name (Some old) None = true
+is_other_name (Some old) (Some new) = not (same_wanted old new)
+
+-- passengers call the new place otherwise than the old one
+abbrev pub is_elsewhere : Carried → Place → Place → Bool
+is_elsewhere c old new = is_other_name (name_of c.olds.now old) (name_of c.news.now new)
+
 -- ---- what it is in the new inventory
 
 abbrev pub outcome_of : Status → Outcome
@@ -50,33 +61,6 @@ outcome_of statuses.Waiting = outcomes.Waiting
 abbrev pub outcome_in : ℕ → List Booking → Outcome
 outcome_in number [] = outcomes.Refused
 outcome_in number (b ∷ bookings) = (if b.number == number then outcome_of b.status else outcome_in number bookings)
-
--- ---- by which line it was asked for
-
--- the first that holds by the line behind those ahead of all, and the first that waits behind all that hold
-abbrev pub first_turn : Carried → Turn
-first_turn c = record {
-  next = 0;
-  held = c.ahead + 1;
-  waiting = c.ahead + length (filter (λ o. is_held o.booking.status) c.asked.now) + 1;
-}
-
-abbrev pub turn_on : Turn → Status → Turn
-turn_on turn statuses.Held = record turn { next = turn.next + 1; held = turn.held + 1 }
-turn_on turn statuses.Waiting = record turn { next = turn.next + 1; waiting = turn.waiting + 1 }
-
--- no number comes near the end of what is counted
-pub record IsWithin (turn : Turn) : Type 0 where
-  pub next : turn.next ≤ 999999
-  pub held : turn.held ≤ 2000000
-  pub waiting : turn.waiting ≤ 2000000
-
--- each that was asked for has its own line
-abbrev pub turn_behind : Turn → Fate → Booking → Turn
-turn_behind turn (Asked a) b = turn_on turn b.status
-turn_behind turn Departed b = turn
-turn_behind turn Unserved b = turn
-turn_behind turn Unsold b = turn
 
 -- ---- what became of it
 
@@ -89,42 +73,31 @@ unasked (targets.Onto p) = Unsold
 abbrev pub unasked_fate : Carried → Booking → Fate
 unasked_fate c b = unasked (target c.olds.now c.new.now c.today b.place)
 
-abbrev pub line_in : Turn → Status → ℕ
-line_in turn statuses.Held = turn.held
-line_in turn statuses.Waiting = turn.waiting
-
-abbrev pub asked_by : Carried → ℕ → Booking → Place → Fate
-asked_by c line b p = Asked (record {
-  line = line;
-  place = p;
-  changed = has_changed c b.place p;
-  outcome = outcome_in line (bookings_on p.flight (state_now c.after.now).bookings);
+-- who was asked for is what the booking of its line is
+abbrev pub asked_fate : Carried → Booking → Numbered → Fate
+asked_fate c b n = Asked (record {
+  line = n.line;
+  place = n.owned.booking.place;
+  class = n.owned.booking.class;
+  elsewhere = is_elsewhere c b.place n.owned.booking.place;
+  changed = is_elsewhere c b.place n.owned.booking.place || (not (n.owned.booking.class == b.class) || has_changed c b.place n.owned.booking.place);
+  outcome = outcome_in n.line (bookings_on n.owned.booking.place.flight (state_now c.after.now).bookings);
 })
 
-abbrev pub asked_fate : Carried → Turn → Booking → Place → Fate
-asked_fate c turn b p = asked_by c (line_in turn b.status) b p
+abbrev pub fate_by : Carried → Booking → Option Numbered → Fate
+fate_by c b None = unasked_fate c b
+fate_by c b (Some n) = asked_fate c b n
 
-abbrev pub is_next : Booking → Option Owned → Option Owned
-is_next b None = None
-is_next b (Some o) = (if o.booking.number == b.number then Some o else None)
+-- the next of those that were asked for, where it is this booking, and those behind it
+abbrev pub next_of : Booking → List Numbered → Option Numbered × List Numbered
+next_of b [] = (None, [])
+next_of b (n ∷ rest) = (if n.owned.booking.number == b.number then (Some n, rest) else (None, n ∷ rest))
 
--- the next of those that were asked for, where it is this booking
-abbrev pub asked_next : List Owned → ℕ → Booking → Option Owned
-asked_next asked next b = is_next b (slice_get asked next)
-
-abbrev pub fate_by : Carried → Turn → Booking → Option Owned → Fate
-fate_by c turn b None = unasked_fate c b
-fate_by c turn b (Some o) = asked_fate c turn b o.booking.place
-
-abbrev pub fate_of : Carried → Turn → Booking → Fate
-fate_of c turn b = fate_by c turn b (asked_next c.asked.now turn.next b)
-
--- of one live booking after the other
-abbrev pub fates_from : Carried → Turn → List Booking → List Fated
-fates_from c turn [] = []
-fates_from c turn (b ∷ live) =
-    record { booking = b; fate = fate_of c turn b } ∷ fates_from c (turn_behind turn (fate_of c turn b) b) live
+-- of one live booking after the other, and those that were asked for, both in order of number
+abbrev pub fates_from : Carried → List Numbered → List Booking → List Fated
+fates_from c rest [] = []
+fates_from c rest (b ∷ live) = record { booking = b; fate = fate_by c b (next_of b rest).0 } ∷ fates_from c (next_of b rest).1 live
 
 -- what became of each live booking
 abbrev pub fates : Carried → List Booking → List Fated
-fates c live = fates_from c (first_turn c) live
+fates c live = fates_from c c.asked.now live

@@ -1,5 +1,5 @@
 -- The line of a live booking in a report.
-use Rattle.std.specs.Prelude.{◌≡◌, ℕ, List, [], ◌∷◌, ◌++◌, decimal, codes, Option, Some, None}
+use Rattle.std.specs.Prelude.{◌≡◌, ℕ, Bool, true, false, List, [], ◌∷◌, ◌++◌, decimal, codes, Option, Some, None}
 use Rattle.airimp_lines.specs.Grammar.{IsPlainLine}
 use Rattle.airimp_lines.specs.declared.segment.Segment.{Segment}
 use Rattle.ssim_flights.specs.declared.flight.Flight.{Flight as Flown}
@@ -38,11 +38,19 @@ pub record IsOld (olds : List Flown) (b : Booking) (text : List ℕ) : Type 0 wh
   pub is_segment : IsSegment (name_of olds b.place) b (status_code b.status) segment
   pub written : text ≡ decimal b.number ++ codes " " ++ b.locator ++ codes " " ++ segment
 
--- its new number, and its segment with the code for what became of it
+abbrev pub in_class : ℕ → Booking → Booking
+in_class class b = record b { class = class }
+
+-- of one that goes elsewhere the old segment is UN
+abbrev pub front_text : Bool → List ℕ
+front_text true = codes "UN "
+front_text false = []
+
+-- its new number, and its new segment with the code for what became of it
 pub record IsAsked (news : List Flown) (b : Booking) (a : AskedFor) (text : List ℕ) : Type 0 where
   pub segment : List ℕ
-  pub is_segment : IsSegment (name_of news a.place) b (asked_code b.status a) segment
-  pub written : text ≡ decimal a.line ++ codes " " ++ segment
+  pub is_segment : IsSegment (name_of news a.place) (in_class a.class b) (asked_code b.status a) segment
+  pub written : text ≡ front_text a.elsewhere ++ decimal a.line ++ codes " " ++ segment
 
 abbrev pub IsNewBy : Fate → List Flown → Booking → List ℕ → List ℕ → Type 0
 IsNewBy (Asked a) news b word text = IsAsked news b a text

@@ -1,18 +1,17 @@
 //! What became of live bookings.
 //! It knows no text.
-ghost use Rattle.std.specs.Prelude.{◌≡◌, ◌≤◌, ◌+◌, ◌++◌, ◌∷◌, [], IfOk, OnOk, filter, length, slice_get};
-ghost use Rattle.seat_rules.specs.Bookings.{is_held};
+ghost use Rattle.std.specs.Prelude.{◌≡◌, ◌++◌, ◌∷◌, [], IfOk, OnOk, slice_get};
 ghost use Rattle.seat_rules.specs.Flights.{bookings_on};
 ghost use Rattle.seat_rules.specs.Inventory.{state_now};
 ghost use Rattle.season_changes.specs.Differing.{same_leg, same_legs};
-ghost use Rattle.carry_reports.specs.Fates.{asked_fate, asked_next, first_turn, fate_of, fates_from, has_changed, legs_at, outcome_in, outcome_of, turn_behind, turn_on, unasked_fate, IsWithin};
+ghost use Rattle.carry_reports.specs.Fates.{asked_fate, fate_by, fates, has_changed, is_elsewhere, is_other_name, legs_at, next_of, outcome_in, outcome_of, unasked_fate};
 
-use airline_base::{Day, Memory, Place};
-use seat_carrying::Owned;
+use airline_base::{Class, Day, Memory, Place};
+use carry_order::Numbered;
 use seat_core::Core;
-use seat_moving::{Target, target_of};
+use seat_moving::{Target, name_of, target_of};
 use seat_rules::{Booking, Status};
-use ssim_flights::{DatedLeg, Flights, Served};
+use ssim_flights::{DatedLeg, Flights, Served, Wanted};
 use std::alloc::Global;
 
 /// What live bookings were carried from and to.
@@ -26,10 +25,8 @@ pub struct Carried<'a> {
     pub new: &'a Served<'a>,
     /// Who departed before this day was not asked for.
     pub today: Day,
-    /// The live bookings that were asked for, on their new places and under their old numbers, in order of these.
-    pub asked: &'a [Owned],
-    /// How many lines of the new journal stand ahead of those that asked for them.
-    pub ahead: u32,
+    /// The live bookings that were asked for, on their new places, in order of their old numbers.
+    pub asked: &'a [Numbered],
     /// The new inventory.
     pub after: &'a Core,
 }
@@ -50,7 +47,12 @@ pub struct Asked {
     pub line: u32,
     /// Its place on the new flights.
     pub place: Place,
-    /// Whether the legs of that place are others than those of its old one: their stations, their order or their local days.
+    /// Its class there.
+    pub class: Class,
+    /// Whether passengers call that place otherwise than its old one: it went there by a row, from a flight or a day to another.
+    pub elsewhere: bool,
+    /// Whether that is so, or its class is another, or the legs of that place are others than those of its old one: their stations, their order or their
+    /// local days.
     pub changed: bool,
     pub outcome: Outcome,
 }
@@ -74,26 +76,18 @@ pub struct Fated {
     pub fate: Fate,
 }
 
-/// Which of those that were asked for comes next, counted from 0, and by which lines the next one was asked for, where it held and where it waited.
-#[derive(Clone, Copy)]
-pub(crate) struct Turn {
-    pub next: usize,
-    pub held: u32,
-    pub waiting: u32,
-}
-
 /// What became of each of these live bookings, which are in order of number.
-#[tactic(auto, using(crate::proofs::FateTurns::first_so_far, crate::proofs::FateTurns::so_far_on, crate::proofs::FateTurns::all_of_them, crate::proofs::FateTurns::turn_within))]
+#[tactic(auto, using(crate::proofs::FateTurns::first_so_far, crate::proofs::FateTurns::all_of_them))]
 pub fn fates(alloc: Global, carried: &Carried<'_>, live: &[Booking]) -> Result<Vec<Fated>, Memory>
     requires old { carried.now.old.now ≡ carried.now.olds.now }
-    requires few { carried.now.ahead + length carried.now.asked.now ≤ 999999 }
-    ensures { IfOk result (λ all. all.items ≡ fates_from carried.now (first_turn carried.now) live.now) }
+    ensures { IfOk result (λ all. all.items ≡ fates carried.now live.now) }
 {
     let mut all = Vec::new(alloc);
-    let mut turn = first_turn(carried);
+    let mut rest = carried.asked;
     for booking in live {
-        let fate = fate_of(carried, &turn, booking);
-        turn = turn_behind(turn, &fate, booking);
+        let (next, behind) = next_of(rest, booking);
+        let fate = fate_by(carried, next, booking);
+        rest = behind;
         push(
             &mut all,
             Fated {
@@ -109,71 +103,57 @@ fn push(all: &mut Vec<Fated>, fated: Fated) -> Result<(), Memory>
     ensures { OnOk result (all.new.items ≡ all.old.items ++ fated ∷ []) }
 {
     let _booking: Booking = fated.booking;
+    let _fate: Fate = fated.fate;
+    let _asked: Option<Asked> = None;
+    let _class: Option<Class> = None;
     match all.push(fated) {
         Ok(()) => Ok(()),
         Err(_) => Err(Memory),
     }
 }
 
-/// The first is asked for by the line behind those ahead of all, and the first that waits behind all that hold.
-fn first_turn(carried: &Carried<'_>) -> Turn
-    requires few { carried.now.ahead + length carried.now.asked.now ≤ 999999 }
-    ensures { result ≡ first_turn carried.now }
-{
-    let held = count_held(carried.asked);
-    Turn {
-        next: 0,
-        held: carried.ahead + 1,
-        waiting: carried.ahead + held + 1,
-    }
-}
-
-/// How many of them hold.
-fn count_held(asked: &[Owned]) -> u32
-    requires few { length asked.now ≤ 999999 }
-    ensures value { result ≡ length (filter (λ o. is_held o.booking.status) asked.now) }
-    ensures few { result ≤ length asked.now }
-{
-    let mut held = 0u32;
-    for owned in asked {
-        if !owned.booking.is_waiting() {
-            held += 1;
-        }
-    }
-    held
-}
-
-fn fate_of(carried: &Carried<'_>, turn: &Turn, booking: &Booking) -> Fate
+/// What became of the next of those that were asked for where it is this booking, or of one that was not asked for.
+fn fate_by(carried: &Carried<'_>, next: Option<Numbered>, booking: &Booking) -> Fate
     requires old { carried.now.old.now ≡ carried.now.olds.now }
-    ensures { result ≡ fate_of carried.now turn.now booking.now }
+    ensures { result ≡ fate_by carried.now booking.now next }
 {
-    match asked_next(carried.asked, turn.next, booking) {
-        Some(owned) => asked_fate(carried, turn, booking, owned.booking.place),
+    match next {
+        Some(numbered) => asked_fate(carried, &numbered, booking),
         None => unasked_fate(carried, booking),
     }
 }
 
-/// The next of those that were asked for, where it is this booking.
-fn asked_next(asked: &[Owned], next: usize, booking: &Booking) -> Option<Owned>
-    ensures { result ≡ asked_next asked.now next booking.now }
+/// The next of those that were asked for, where it is this booking, and those behind it.
+fn next_of<'a>(rest: &'a [Numbered], booking: &Booking) -> (Option<Numbered>, &'a [Numbered])
+    ensures next { result.0 ≡ (next_of booking.now rest.now).0 }
+    ensures behind { result.1.now ≡ (next_of booking.now rest.now).1 }
 {
-    match asked.get(next) {
-        Some(owned) if owned.booking.number == booking.number => Some(*owned),
-        _ => None,
+    let _booking: Option<Booking> = None;
+    match rest {
+        [] => (None, rest),
+        [numbered, behind @ ..] => {
+            if numbered.owned.booking.number == booking.number {
+                (Some(*numbered), behind)
+            } else {
+                (None, rest)
+            }
+        }
     }
 }
 
-fn asked_fate(carried: &Carried<'_>, turn: &Turn, booking: &Booking, place: Place) -> Fate
-    ensures { result ≡ asked_fate carried.now turn.now booking.now place }
+fn asked_fate(carried: &Carried<'_>, numbered: &Numbered, booking: &Booking) -> Fate
+    ensures { result ≡ asked_fate carried.now booking.now numbered.now }
 {
-    let line = match booking.status {
-        Status::Held => turn.held,
-        Status::Waiting => turn.waiting,
-    };
+    let line = numbered.line;
+    let place = numbered.owned.booking.place;
+    let class = numbered.owned.booking.class;
+    let elsewhere = is_elsewhere(carried, booking.place, place);
     Fate::Asked(Asked {
         line,
         place,
-        changed: has_changed(carried, booking.place, place),
+        class,
+        elsewhere,
+        changed: elsewhere || class != booking.class || has_changed(carried, booking.place, place),
         outcome: outcome_in(line, carried.after.bookings_on(place.flight)),
     })
 }
@@ -195,34 +175,6 @@ fn unasked_fate(carried: &Carried<'_>, booking: &Booking) -> Fate
     }
 }
 
-fn turn_behind(turn: Turn, fate: &Fate, booking: &Booking) -> Turn
-    requires { IsWithin turn }
-    ensures { result ≡ turn_behind turn fate.now booking.now }
-{
-    match fate {
-        Fate::Asked(_) => turn_on(turn, booking.status),
-        Fate::Departed | Fate::Unserved | Fate::Unsold => turn,
-    }
-}
-
-fn turn_on(turn: Turn, status: Status) -> Turn
-    requires { IsWithin turn }
-    ensures { result ≡ turn_on turn status }
-{
-    match status {
-        Status::Held => Turn {
-            next: turn.next + 1,
-            held: turn.held + 1,
-            waiting: turn.waiting,
-        },
-        Status::Waiting => Turn {
-            next: turn.next + 1,
-            held: turn.held,
-            waiting: turn.waiting + 1,
-        },
-    }
-}
-
 /// What the booking of this number is among these.
 fn outcome_in(number: u32, bookings: &[Booking]) -> Outcome
     ensures { result ≡ outcome_in number bookings.now }
@@ -241,6 +193,25 @@ fn outcome_of(status: Status) -> Outcome
     match status {
         Status::Held => Outcome::Held,
         Status::Waiting => Outcome::Waiting,
+    }
+}
+
+/// Whether passengers call a place of the new flights otherwise than one of the old ones.
+fn is_elsewhere(carried: &Carried<'_>, old: Place, new: Place) -> bool
+    ensures { result ≡ is_elsewhere carried.now old new }
+{
+    is_other_name(name_of(carried.olds, old), name_of(carried.news, new))
+}
+
+fn is_other_name(old: Option<Wanted>, new: Option<Wanted>) -> bool
+    ensures { result ≡ is_other_name old new }
+{
+    match old {
+        None => true,
+        Some(old) => match new {
+            None => true,
+            Some(new) => old != new,
+        },
     }
 }
 

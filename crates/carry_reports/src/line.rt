@@ -3,12 +3,12 @@
 ghost use Rattle.std.specs.Prelude.{◌≡◌, ◌++◌, ◌∷◌, [], OnOk};
 ghost use Rattle.seat_desk.specs.FlightsDesk.{IsPut};
 ghost use Rattle.carry_reports.specs.Codes.{word_text};
-ghost use Rattle.carry_reports.specs.Lines.{IsAskedPut, IsFatedLine, IsNewPut, IsOldPut, IsSegmentPut, segment_of};
+ghost use Rattle.carry_reports.specs.Lines.{IsAskedPut, IsFatedLine, IsNewPut, IsOldPut, IsSegmentPut, front_text, in_class, segment_of};
 
 use crate::codes::{asked_code, code_of};
 use crate::fating::{Asked, Fate, Fated};
 use airimp_lines::{Segment, reply_text};
-use airline_base::{Code, Place};
+use airline_base::{Class, Code, Place};
 use seat_desk::{put, put_number};
 use seat_lists::status_code;
 use seat_moving::name_of;
@@ -78,10 +78,25 @@ fn put_asked(
 ) -> Result<(), AllocError>
     ensures { OnOk result (IsAskedPut news.now booking.now asked.now text.old.items text.new.items) }
 {
+    put_front(text, asked.elsewhere)?;
     put_number(text, u64::from(asked.line))?;
     put(text, b" ")?;
     let code = asked_code(booking.status, asked);
-    put_segment(text, name_of(news, asked.place), booking, code)
+    let there = in_class(booking, asked.class);
+    put_segment(text, name_of(news, asked.place), &there, code)
+}
+
+/// Adds what becomes of the old segment of a booking that goes elsewhere: UN.
+fn put_front(text: &mut Vec<u8>, elsewhere: bool) -> Result<(), AllocError>
+    ensures { OnOk result (text.new.items ≡ text.old.items ++ front_text elsewhere) }
+{
+    if elsewhere { put(text, b"UN ") } else { Ok(()) }
+}
+
+fn in_class(booking: &Booking, class: Class) -> Booking
+    ensures { result ≡ in_class class booking.now }
+{
+    Booking { class, ..*booking }
 }
 
 /// Adds a code, or DEPARTED where there is none.

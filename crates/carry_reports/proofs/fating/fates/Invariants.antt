@@ -4,4 +4,4 @@ use Rattle.carry_reports.proofs.FateTurns.{IsSoFar}
 use Rattle.carry_reports.proofs.fating.fates.Given as goal
 
 abbrev pub invariant-loop-booking : goal.invariant-loop-booking
-invariant-loop-booking l = IsSoFar l.carried l.live (drop l.booking-index l.live) l.all.items l.turn
+invariant-loop-booking l = IsSoFar l.carried l.live (drop l.booking-index l.live) l.all.items l.rest

@@ -1,0 +1,4 @@
+pub mod Courses
+pub mod Going
+pub mod Refusing
+pub mod Rows
