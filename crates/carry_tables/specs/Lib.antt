@@ -1,0 +1,2 @@
+pub mod FateRows
+pub mod Sides

@@ -1,0 +1,158 @@
+//! The rows of live bookings: what each was, what it is, and the code for what became of it.
+//! It knows no sums.
+ghost use Rattle.std.specs.Prelude.{◌≡◌, OnOk, map};
+ghost use Rattle.seat_tables.specs.Rows.{rows_from};
+ghost use Rattle.seat_tables.specs.Sheets.{ArePut, IsReady};
+ghost use Rattle.carry_tables.specs.FateRows.{carry_names, code_cell, fate_row, fate_rows, new_side, old_side, outcome_cell, row_of};
+
+use crate::sides::{Side, no_side, side_of};
+use airline_base::{Code, Locator};
+use carry_reports::{Fate, Fated, Outcome, code_of};
+use seat_lists::status_code;
+use seat_moving::name_of;
+use seat_rules::Booking;
+use seat_tables::{Cell, Sheet, put_row};
+use ssim_flights::Flights;
+use std::alloc::{AllocError, Global};
+
+/// The names of the columns.
+pub(crate) fn names() -> [&'static str; 18]
+    ensures { map (λ n. n.now) result ≡ carry_names }
+{
+    [
+        "number",
+        "locator",
+        "designator",
+        "class",
+        "day",
+        "board",
+        "off",
+        "status",
+        "seats",
+        "new_number",
+        "new_designator",
+        "new_class",
+        "new_day",
+        "new_board",
+        "new_off",
+        "new_status",
+        "new_seats",
+        "code",
+    ]
+}
+
+/// Adds a row for each of these live bookings, which were on the flights of the old season.
+pub(crate) fn put_fates(
+    alloc: Global,
+    sheet: &mut Sheet,
+    olds: &Flights,
+    news: &Flights,
+    all: &[Fated],
+) -> Result<(), AllocError>
+    requires ready { IsReady sheet.old }
+    ensures { OnOk result (ArePut carry_names (rows_from (fate_rows olds.now news.now) 0 all.now) sheet.old sheet.new) }
+{
+    for i in 0..all.len() {
+        put_fate(alloc, sheet, olds, news, &all[i])?;
+    }
+    Ok(())
+}
+
+/// Adds the row of a live booking.
+fn put_fate(
+    alloc: Global,
+    sheet: &mut Sheet,
+    olds: &Flights,
+    news: &Flights,
+    fated: &Fated,
+) -> Result<(), AllocError>
+    requires ready { IsReady sheet.old }
+    ensures { OnOk result (ArePut carry_names (fate_rows olds.now news.now 0 fated.now) sheet.old sheet.new) }
+{
+    let row = fate_row(olds, news, fated);
+    put_row(alloc, sheet, &names(), &row)?;
+    Ok(())
+}
+
+fn fate_row(olds: &Flights, news: &Flights, fated: &Fated) -> [Cell; 18]
+    ensures { result ≡ fate_row olds.now news.now fated.now }
+{
+    let old = old_side(olds, &fated.booking);
+    let new = new_side(news, &fated.booking, &fated.fate);
+    row_of(fated.booking.locator, &old, &new, code_cell(code_of(fated)))
+}
+
+/// What it was: HK where it held, HL where it waited.
+fn old_side(olds: &Flights, booking: &Booking) -> Side
+    ensures { result ≡ old_side olds.now booking.now }
+{
+    side_of(
+        booking.number,
+        name_of(olds, booking.place),
+        booking.class,
+        Cell::Word(status_code(booking.status)),
+        booking.seats,
+    )
+}
+
+/// What it is, where it was asked for.
+fn new_side(news: &Flights, booking: &Booking, fate: &Fate) -> Side
+    ensures { result ≡ new_side news.now booking.now fate.now }
+{
+    match fate {
+        Fate::Asked(asked) => side_of(
+            asked.line,
+            name_of(news, asked.place),
+            asked.class,
+            outcome_cell(asked.outcome),
+            booking.seats,
+        ),
+        Fate::Departed | Fate::Unserved | Fate::Unsold => no_side(),
+    }
+}
+
+/// HK where it holds now, HL where it waits, and nothing where it does neither.
+fn outcome_cell(outcome: Outcome) -> Cell
+    ensures { result ≡ outcome_cell outcome }
+{
+    match outcome {
+        Outcome::Held => Cell::Word(Code::of(*b"HK")),
+        Outcome::Waiting => Cell::Word(Code::of(*b"HL")),
+        Outcome::Refused => Cell::Nothing,
+    }
+}
+
+/// The code, or nothing where there is none.
+fn code_cell(code: Option<Code>) -> Cell
+    ensures { result ≡ code_cell code }
+{
+    match code {
+        Some(code) => Cell::Word(code),
+        None => Cell::Nothing,
+    }
+}
+
+fn row_of(locator: Locator, old: &Side, new: &Side, code: Cell) -> [Cell; 18]
+    ensures { result ≡ row_of locator old.now new.now code }
+{
+    [
+        old.number,
+        Cell::Name(locator),
+        old.designator,
+        old.class,
+        old.day,
+        old.board,
+        old.off,
+        old.status,
+        old.seats,
+        new.number,
+        new.designator,
+        new.class,
+        new.day,
+        new.board,
+        new.off,
+        new.status,
+        new.seats,
+        code,
+    ]
+}
