@@ -3,3 +3,8 @@ mod OldReads
 mod Makes
 mod Outcomes
 mod Parts
+mod Protections
+mod Apart
+mod Firsts
+mod Promising
+mod Failing

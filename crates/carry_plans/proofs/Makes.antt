@@ -1,5 +1,5 @@
 -- What is made of a journal's bytes, and why nothing is.
-use Rattle.std.proofs.Common.{◌≡◌, ◌≢◌, ℕ, Bool, false, List, refl, sym, subst}
+use Rattle.std.proofs.Common.{◌≡◌, ◌≢◌, ℕ, false, List, refl, sym, subst}
 use Rattle.ssim_flights.specs.declared.flight.Flight.{Flight as Flown}
 use Rattle.seat_limits.specs.Authorised.{authorised_grid}
 use Rattle.seat_limits.specs.declared.limit_row.LimitRow.{LimitRow}
@@ -13,12 +13,13 @@ use Rattle.seat_seal.specs.declared.beside.Basis.{Basis}
 use Rattle.seat_seal.specs.declared.seal.Sealed.{Sealed as Belonging}
 use Rattle.carry_limits.proofs.Files.{authorised_has_legs}
 use Rattle.carry_limits.specs.Legs.{HasLegsOf}
-use Rattle.carry_plans.specs.Carries.{IsMadeOf, IsPut, IsUnmade, IsUnmadeOf}
-use Rattle.carry_plans.specs.Plans.{IsPlanned, IsUnplanned}
+use Rattle.carry_plans.specs.Carries.{IsMadeOf, IsPut, IsUnmade}
+use Rattle.carry_plans.specs.Plans.{IsUnplanned}
+use Rattle.carry_plans.specs.Promises.{IsPromised}
 use Rattle.carry_plans.specs.declared.asked.CarryAsked.{CarryAsked}
 use Rattle.carry_plans.specs.declared.carriage.Carriage.{Carriage}
 use Rattle.carry_plans.specs.declared.fault.CarryFault.{CarryFault}
-use Rattle.carry_plans.specs.declared.fault.CarryFault.TheVariants.{Season, Unsealed, Over, Full, Memory}
+use Rattle.carry_plans.specs.declared.fault.CarryFault.TheVariants.{Season, Unsealed, Row, Over, Full, Memory}
 
 pub has_legs : (rows : List LimitRow) (flights : List Flown) (grid : Ladders) → grid ≡ authorised_grid rows flights → HasLegsOf grid flights
 has_legs rows flights grid is = subst (λ (g : Ladders). HasLegsOf g flights) (sym is) (authorised_has_legs rows flights)
@@ -40,13 +41,14 @@ module _ (asked : CarryAsked) (news : List Flown) (file : Ladders) (olds : List 
   pub unmade_of : (f : CarryFault) (before : Inventory) → IsReplayOf grid bytes before → IsUnplanned asked olds before news file f
       → IsUnmade asked news file olds grid bytes f
   unmade_of (Over text) before replayed wrong = record { before = before; replayed = replayed; unplanned = wrong }
+  unmade_of (Row f) before replayed wrong = record { before = before; replayed = replayed; unplanned = wrong }
   unmade_of Full before replayed wrong = record { before = before; replayed = replayed; unplanned = wrong }
   unmade_of Memory before replayed wrong = tt
   unmade_of Unsealed before replayed wrong = absurd wrong
   unmade_of (Season fault) before replayed wrong = absurd wrong
 
   pub made_of_it : (basis : Basis) (known : Belonging) (c : Carriage) (before after : Inventory) (report : List ℕ) → IsReplayOf grid bytes before
-      → IsPlanned asked olds before news file after report → IsPut asked.today basis known after report c
+      → IsPromised asked olds before news file after report → IsPut asked.today basis known after report c
       → IsMadeOf asked news file basis olds grid bytes known c
   made_of_it basis known c before after report replayed plan put =
-      record { before = before; replayed = replayed; after = after; report = report; planned = plan; put = put }
+      record { before = before; replayed = replayed; after = after; report = report; promised = plan; put = put }

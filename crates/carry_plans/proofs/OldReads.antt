@@ -1,5 +1,5 @@
 -- What was read of an old season and a journal.
-use Rattle.std.proofs.Common.{◌≡◌, ◌≢◌, ◌≤◌, ◌<◌, ◌⊎◌, ℕ, Bool, true, false, List, [], length, Option, Some, None, IfSome, refl, sym, subst, inl, inr, ap}
+use Rattle.std.proofs.Common.{◌≡◌, ◌≤◌, ◌<◌, ◌⊎◌, ℕ, true, false, List, [], length, Option, Some, None, IfSome, refl, sym, subst, inl, inr}
 use Rattle.std.specs.Prelude.{IsTrue, is_some}
 use Rattle.ssim_flights.specs.declared.flight.Flight.{Flight as Flown}
 use Rattle.seat_limits.specs.Authorised.{authorised_grid}
@@ -9,7 +9,7 @@ use Rattle.seat_desk.specs.Answering.{IsFirstTooLarge, IsFirstTooLargeOf, IsRefu
 use Rattle.seat_desk.specs.AuditDesk.{IsUnlawful, most_journal_bytes}
 use Rattle.seat_desk.specs.Desk.{IsOfInput}
 use Rattle.seat_desk.specs.Loading.{Bytes, IsFirstTooLargeLoad, IsFirstTooLargeLoadOf, IsGround, IsGroundOf, IsRefusedLoad, IsRefusedLoadOf}
-use Rattle.seat_desk.specs.Sealing.{IsBasisOf, IsBesideFault, basis_of}
+use Rattle.seat_desk.specs.Sealing.{IsBasisOf, IsBesideFault}
 use Rattle.seat_desk.specs.declared.fault.DeskFault.{DeskFault}
 use Rattle.seat_desk.specs.declared.fault.DeskFault.TheVariants as desk
 use Rattle.seat_desk.specs.declared.inputs.Inputs.{Inputs}
@@ -19,7 +19,6 @@ use Rattle.seat_seal.specs.Known.{IsKnown}
 use Rattle.seat_seal.specs.declared.beside.Basis.{Basis}
 use Rattle.seat_seal.specs.declared.beside.Beside.{Beside}
 use Rattle.seat_seal.specs.declared.seal.Sealed.{Sealed as Belonging}
-use Rattle.season_changes.specs.declared.fault.SeasonFault.{SeasonFault}
 use Rattle.carry_plans.specs.Carries.{IsFrom, IsOldRead, IsUnread}
 use Rattle.carry_plans.specs.declared.fault.CarryFault.{CarryFault}
 use Rattle.carry_plans.specs.declared.fault.CarryFault.TheVariants.{Season, Unsealed}

@@ -1,11 +1,11 @@
 -- What a carry answers.
-use Rattle.std.proofs.Common.{◌≡◌, ◌≢◌, ◌≤◌, ℕ, Bool, true, false, List, [], length, Option, Some, None, IfSome, refl, sym, subst, ap, inl, inr, ◌∙◌}
+use Rattle.std.proofs.Common.{◌≡◌, ◌≢◌, ℕ, Bool, true, List, [], Option, Some, None, IfSome, refl, sym, subst, inr}
 use Rattle.std.specs.Prelude.{IsTrue}
 use Rattle.ssim_flights.specs.declared.flight.Flight.{Flight as Flown}
 use Rattle.seat_limits.specs.Authorised.{authorised_grid}
 use Rattle.seat_limits.specs.declared.limit_row.LimitRow.{LimitRow}
 use Rattle.seat_nesting.specs.Nesting.{Ladders}
-use Rattle.seat_desk.specs.Answering.{IsAnswer, IsFirstTooLargeOf, IsRefusedAnswer, IsRefusedAnswerOf}
+use Rattle.seat_desk.specs.Answering.{IsAnswer, IsRefusedAnswer}
 use Rattle.seat_desk.specs.AuditDesk.{IsUnlawful}
 use Rattle.seat_desk.specs.Desk.{IsOfInput}
 use Rattle.seat_desk.specs.Loading.{Bytes, IsFirstTooLargeLoadOf, IsGround, IsGroundOf, IsRefusedLoadOf}
@@ -17,12 +17,11 @@ use Rattle.seat_seal.specs.Known.{IsKnown}
 use Rattle.seat_seal.specs.declared.beside.Basis.{Basis}
 use Rattle.seat_seal.specs.declared.beside.Beside.{Beside}
 use Rattle.season_changes.specs.Seasons.{IsRefusedOf, IsTooLargeOf}
-use Rattle.season_changes.specs.declared.fault.SeasonFault.{SeasonFault}
-use Rattle.carry_plans.specs.Carries.{IsCarryOf, IsFrom, IsMade, IsMadeOf, IsOfJournal, IsOldRead, IsOnto, IsOntoOf, IsUncarried, IsUnmade, IsUnmadeOf, IsUnread, IsUnreadOld}
+use Rattle.carry_plans.specs.Carries.{IsCarryOf, IsFrom, IsMade, IsMadeOf, IsOldRead, IsOnto, IsOntoOf, IsUncarried, IsUnmade, IsUnmadeOf, IsUnread}
 use Rattle.carry_plans.specs.declared.asked.CarryAsked.{CarryAsked}
 use Rattle.carry_plans.specs.declared.carriage.Carriage.{Carriage}
 use Rattle.carry_plans.specs.declared.fault.CarryFault.{CarryFault}
-use Rattle.carry_plans.specs.declared.fault.CarryFault.TheVariants.{Season, Unsealed, Over, Full, Memory}
+use Rattle.carry_plans.specs.declared.fault.CarryFault.TheVariants.{Season, Unsealed, Row, Over, Full, Memory}
 use Rattle.carry_plans.specs.declared.reading.OldRead.{OldRead}
 
 -- ---- the new season
@@ -116,6 +115,7 @@ module _ {S L : Type 0} (set : Bytes S) (limits : Bytes L) (from to : Inputs S L
   unread_by Memory ground known ladders unread = tt
   unread_by (Over text) ground known ladders unread = absurd unread
   unread_by Full ground known ladders unread = absurd unread
+  unread_by (Row f) ground known ladders unread = absurd unread
 
   pub refused_old : (f : CarryFault) → IsGroundOf set limits to news rows → (IsTrue true → IsBasisOf set limits to basis)
       → file ≡ authorised_grid rows news → IsUnread set limits from journal beside f → IsUncarried set limits from to journal beside asked f
@@ -162,6 +162,7 @@ module _ {S L : Type 0} (set : Bytes S) (limits : Bytes L) (from to : Inputs S L
   }
   refused_made r Unsealed ground known ladders read wrong = absurd wrong
   refused_made r (Over text) ground known ladders read wrong = onto_unmade r (Over text) ground known ladders read wrong
+  refused_made r (Row f) ground known ladders read wrong = onto_unmade r (Row f) ground known ladders read wrong
   refused_made r Full ground known ladders read wrong = onto_unmade r Full ground known ladders read wrong
   refused_made r Memory ground known ladders read wrong = tt
 

@@ -1,5 +1,5 @@
 -- What a carry answers to its inputs.
-use Rattle.std.specs.Prelude.{◌≡◌, ◌≢◌, ◌≤◌, ◌+◌, ℕ, min, Bool, true, false, List, [], length, Option, Some, None, IfSome}
+use Rattle.std.specs.Prelude.{◌≡◌, ◌≢◌, ◌+◌, ℕ, min, false, List, [], length, Option, Some, None, IfSome}
 use Rattle.ssim_flights.specs.declared.flight.Flight.{Flight as Flown}
 use Rattle.seat_journal.specs.Text.{journal_text}
 use Rattle.seat_limits.specs.Authorised.{authorised_grid}
@@ -11,7 +11,6 @@ use Rattle.seat_desk.specs.AuditDesk.{IsReplayOf, IsUnlawful}
 use Rattle.seat_desk.specs.Desk.{IsOfInput}
 use Rattle.seat_desk.specs.Loading.{Bytes, IsGround}
 use Rattle.seat_desk.specs.Sealing.{basis_of}
-use Rattle.seat_desk.specs.declared.fault.DeskFault.{DeskFault}
 use Rattle.seat_desk.specs.declared.fault.DeskFault.TheVariants as desk
 use Rattle.seat_desk.specs.declared.inputs.Inputs.{Inputs}
 use Rattle.seat_seal.specs.Closing.{IsClosedEntry}
@@ -26,12 +25,13 @@ use Rattle.seat_seal.specs.declared.era.Era.{Era}
 use Rattle.seat_seal.specs.declared.seal.Sealed.{Sealed as Belonging}
 use Rattle.season_changes.specs.Seasons.{IsRefusedOf, IsTooLargeOf}
 use Rattle.season_changes.specs.declared.fault.SeasonFault.{SeasonFault}
-use Rattle.carry_plans.specs.Plans.{IsPlanned, IsUnplanned}
+use Rattle.carry_plans.specs.Plans.{IsUnplanned}
+use Rattle.carry_plans.specs.Promises.{IsPromised}
 use Rattle.carry_plans.specs.declared.asked.CarryAsked.{CarryAsked}
 use Rattle.carry_plans.specs.declared.carriage.Carriage.{Carriage}
 use Rattle.carry_plans.specs.declared.reading.OldRead.{OldRead}
 use Rattle.carry_plans.specs.declared.fault.CarryFault.{CarryFault}
-use Rattle.carry_plans.specs.declared.fault.CarryFault.TheVariants.{Season, Unsealed, Over, Full, Memory}
+use Rattle.carry_plans.specs.declared.fault.CarryFault.TheVariants.{Season, Unsealed, Row, Over, Full, Memory}
 
 -- ---- the new seal
 
@@ -64,7 +64,7 @@ pub record IsMadeOf (asked : CarryAsked) (news : List Flown) (file : Ladders) (b
   pub replayed : IsReplayOf grid bytes before
   pub after : Inventory
   pub report : List ℕ
-  pub planned : IsPlanned asked olds before news file after report
+  pub promised : IsPromised asked olds before news file after report
   pub put : IsPut asked.today basis known after report c
 
 -- and of what its seal knows
@@ -93,6 +93,7 @@ abbrev pub IsUnmade : CarryAsked → List Flown → Ladders → List Flown → L
 IsUnmade asked news file olds grid bytes (Season fault) = IsOfJournal grid bytes fault
 IsUnmade asked news file olds grid bytes Unsealed = ⊥
 IsUnmade asked news file olds grid bytes (Over text) = IsUnmadeOf asked news file olds grid bytes (Over text)
+IsUnmade asked news file olds grid bytes (Row f) = IsUnmadeOf asked news file olds grid bytes (Row f)
 IsUnmade asked news file olds grid bytes Full = IsUnmadeOf asked news file olds grid bytes Full
 IsUnmade asked news file olds grid bytes Memory = Unit {0}
 
@@ -146,6 +147,7 @@ IsUnread set limits from journal beside Unsealed = IsFrom set limits from journa
 IsUnread set limits from journal beside Memory = Unit {0}
 IsUnread set limits from journal beside (Over text) = ⊥
 IsUnread set limits from journal beside Full = ⊥
+IsUnread set limits from journal beside (Row f) = ⊥
 
 -- the first season that is not right is at fault, and of it the first input
 pub record IsUnreadSeason {S L : Type 0} (set : Bytes S) (limits : Bytes L) (from to : Inputs S L) (journal : Option (List ℕ)) (beside : Beside)
@@ -154,7 +156,7 @@ pub record IsUnreadSeason {S L : Type 0} (set : Bytes S) (limits : Bytes L) (fro
   pub large : fault.fault ≡ desk.TooLarge → IsTooLargeOf set limits from to journal fault.is_new
 
 -- the first season that is not right is at fault, or what stands beside the journal, or the journal; or all are right, and no more is known of the
--- journal than its bytes, or a leg has too few seats, or there are too many lines
+-- journal than its bytes, or a row is wrong, or a leg has too few seats, or there are too many lines
 abbrev pub IsUncarried : {S L : Type 0} → Bytes S → Bytes L → Inputs S L → Inputs S L → Option (List ℕ) → Beside → CarryAsked → CarryFault → Type 0
 IsUncarried set limits from to journal beside asked (Season fault) = IsUnreadSeason set limits from to journal beside fault
 IsUncarried set limits from to journal beside asked Unsealed =
@@ -162,6 +164,9 @@ IsUncarried set limits from to journal beside asked Unsealed =
 IsUncarried set limits from to journal beside asked (Over text) =
     IsOntoOf set limits to (λ news file basis.
     IsFrom set limits from journal beside (λ olds grid bytes. IsUnmadeOf asked news file olds grid bytes (Over text)))
+IsUncarried set limits from to journal beside asked (Row f) =
+    IsOntoOf set limits to (λ news file basis.
+    IsFrom set limits from journal beside (λ olds grid bytes. IsUnmadeOf asked news file olds grid bytes (Row f)))
 IsUncarried set limits from to journal beside asked Full =
     IsOntoOf set limits to (λ news file basis.
     IsFrom set limits from journal beside (λ olds grid bytes. IsUnmadeOf asked news file olds grid bytes Full))

@@ -1,2 +1,4 @@
 pub mod Carries
 pub mod Plans
+pub mod Promises
+pub mod Failing

@@ -9,7 +9,7 @@ pub struct Carriage {
     pub text: Items<u8>,
     /// What its seal says.
     pub entry: Sealed,
-    /// A line for each live booking of the older journal, and one of sums.
+    /// Of each live booking of the older journal, in the form that is asked for.
     pub report: Items<u8>,
     /// What the seal of the older journal knows of it.
     pub known: Sealed,

@@ -1,18 +1,22 @@
 //! The live bookings of a journal, and those of them that are asked for.
 //! It knows no limit but that a leg sells a class.
-ghost use Rattle.std.specs.Prelude.{◌≡◌, [], IfOk, None};
+ghost use Rattle.std.specs.Prelude.{◌≡◌, [], IfOk, None, OnOk};
 ghost use Rattle.std.specs.List.{All};
 ghost use Rattle.seat_desk.specs.Loading.{IsGridOf};
 ghost use Rattle.seat_carrying.specs.Owned.{IsOwned};
 ghost use Rattle.seat_rules.specs.Inventory.{state_now};
+ghost use Rattle.seat_rules.specs.Journal.{IsLegal};
+ghost use Rattle.carry_order.specs.Ordering.{first_under};
 ghost use Rattle.carry_plans.specs.Plans.{AreChosen, IsEvery};
 
-use airline_base::{Day, Memory};
+use crate::asked::CarryAsked;
+use airline_base::{Locator, Memory};
 use carry_lines::carriable;
+use carry_order::ordered;
+use carry_protections::{Course, moved_under};
 use seat_carrying::Owned;
 use seat_core::Core;
 use seat_lists::{Wanted, picked};
-use seat_moving::moved;
 use seat_nesting::Grid;
 use seat_rules::Booking;
 use ssim_flights::{Flights, Served};
@@ -25,35 +29,61 @@ pub(crate) struct Chosen {
     pub kept: Vec<Owned>,
 }
 
-/// The live bookings of a journal over these flights, and those that go to a place of the new ones that sells their class. The limits of the new places
-/// are the file's.
+/// The live bookings of a journal over these flights, and those that go to a place of the new ones that sells their class, by these courses or by the name
+/// of their own place, in the order in which they keep their seats. The limits of the new places are the file's.
 #[tactic(auto, using(crate::proofs::Choices::are_chosen))]
 pub(crate) fn choose(
     alloc: Global,
+    asked: &CarryAsked<'_>,
+    courses: &[Course],
     before: &Core,
     olds: &Flights,
     old: &Served<'_>,
     new: &Served<'_>,
-    today: Day,
     file: &Grid,
 ) -> Result<Chosen, Memory>
     requires grid { IsGridOf olds.now before.now.grid }
     requires served { old.now ≡ olds.now }
-    ensures chosen { IfOk result (λ c. AreChosen before.now olds.now new.now today file.now c.live.items c.kept.items) }
+    ensures chosen { IfOk result (λ c. AreChosen asked.now courses.now before.now olds.now new.now file.now c.live.items c.kept.items) }
     ensures owned { IfOk result (λ c. All (IsOwned file.now) c.kept.items) }
+    ensures legal { OnOk result (IsLegal before.now.grid before.now.journal) }
 {
     let live = every(alloc, olds, before)?;
-    let moved = moved(
+    let moved = moved_under(
         alloc,
+        courses,
         before.journal(),
         olds,
         old,
         new,
-        today,
+        asked.today,
         live.as_slice(),
     )?;
-    let kept = carriable(alloc, file, moved.as_slice())?;
+    let fit = carriable(alloc, file, moved.as_slice())?;
+    let kept = in_order(alloc, asked.order, file, fit)?;
     Ok(Chosen { live, kept })
+}
+
+/// These bookings in the order in which they keep their seats.
+#[tactic(auto, using(crate::proofs::Choices::all_owned, crate::proofs::Choices::nobody_first))]
+fn in_order(
+    alloc: Global,
+    first: &[Locator],
+    file: &Grid,
+    live: Vec<Owned>,
+) -> Result<Vec<Owned>, Memory>
+    requires owned { All (IsOwned file.now) live.items }
+    ensures order { IfOk result (λ all. all.items ≡ first_under first.now live.items) }
+    ensures owned { IfOk result (λ all. All (IsOwned file.now) all.items) }
+{
+    let _booking: Option<Booking> = None;
+    if first.is_empty() {
+        return Ok(live);
+    }
+    match ordered(alloc, first, live) {
+        Ok(all) => Ok(all),
+        Err(memory) => Err(memory),
+    }
 }
 
 /// All live bookings, in order of number.

@@ -2,6 +2,7 @@
 ghost use Rattle.std.specs.Prelude.{◌≡◌, true, false};
 
 use airline_base::Items;
+use carry_protections::CourseFault;
 use season_changes::SeasonFault;
 use seat_desk::DeskFault;
 
@@ -12,6 +13,8 @@ pub enum CarryFault {
     Season(SeasonFault),
     /// What stands beside the journal is no seal, or knows no more of it than its bytes: so it can't say that the bookings were carried.
     Unsealed,
+    /// A row that says where bookings go is wrong, or can't be followed.
+    Row(CourseFault),
     /// Legs of the new season have fewer seats than are held there: a line for each.
     Over(Items<u8>),
     /// The new journal has more lines than a journal may have.

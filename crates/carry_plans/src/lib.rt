@@ -8,6 +8,7 @@ mod choosing;
 mod fault;
 mod making;
 mod planning;
+mod protecting;
 mod reading;
 
 pub use asked::CarryAsked;

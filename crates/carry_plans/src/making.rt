@@ -1,6 +1,6 @@
 //! The new journal, its seal's entry and the report, of seasons that were read and a journal's bytes.
 //! It knows no reader.
-ghost use Rattle.std.specs.Prelude.{◌≡◌, ◌≤◌, ◌+◌, min, IfErr, IfOk, length};
+ghost use Rattle.std.specs.Prelude.{◌≡◌, ◌≤◌, ◌<◌, ◌+◌, ◌^◌, min, IfErr, IfOk, length};
 ghost use Rattle.carry_limits.specs.Legs.{HasLegsOf};
 ghost use Rattle.seat_desk.specs.AuditDesk.{most_journal_bytes, most_lines};
 ghost use Rattle.seat_desk.specs.Loading.{IsGridOf};
@@ -27,16 +27,18 @@ use std::thread::Threads;
 pub(crate) fn made<R: Threads + Sync>(
     rt: &R,
     alloc: Global,
-    asked: &CarryAsked,
+    asked: &CarryAsked<'_>,
     new: &Based,
     olds: &Flights,
     grid: Grid,
     bytes: Vec<u8>,
     known: Sealed,
 ) -> Result<Carriage, CarryFault>
+    requires rows { length asked.now.protections.now < 2 ^ 32 }
     requires size { length bytes.items ≤ most_journal_bytes }
     requires grid { IsGridOf olds.now grid }
     requires file { HasLegsOf new.now.loaded.grid new.now.loaded.flights }
+    requires ladders { IsGridOf new.now.loaded.flights new.now.loaded.grid }
     ensures imprint { IfOk result (λ c. c.entry.journal.imprint ≡ imprint_of (front_of c.text)) }
     ensures made { IfOk result (IsMadeOf asked.now new.now.loaded.flights new.now.loaded.grid new.now.basis olds.now grid bytes.items known) }
     ensures fault { IfErr result (IsUnmade asked.now new.now.loaded.flights new.now.loaded.grid olds.now grid bytes.items) }

@@ -1,6 +1,6 @@
 //! The new inventory and the report, of two seasons in memory.
 //! It knows the parts, and no text of a season or a journal.
-ghost use Rattle.std.specs.Prelude.{◌≡◌, ◌≤◌, ◌+◌, [], IfErr, IfOk, OnOk, length};
+ghost use Rattle.std.specs.Prelude.{◌≡◌, ◌≤◌, ◌<◌, ◌+◌, ◌^◌, [], IfErr, IfOk, OnOk, length};
 ghost use Rattle.std.specs.List.{All};
 ghost use Rattle.seat_carrying.specs.Owned.{IsOwned};
 ghost use Rattle.seat_desk.specs.Loading.{IsGridOf};
@@ -11,22 +11,28 @@ ghost use Rattle.carry_lines.specs.Setting.{FitsMark};
 ghost use Rattle.seat_desk.specs.AuditDesk.{most_lines};
 ghost use Rattle.seat_desk.specs.FlightsDesk.{IsText};
 ghost use Rattle.seat_rules.specs.Inventory.{IsReplayed};
-ghost use Rattle.seat_rules.specs.Journal.{FitsChange};
-ghost use Rattle.carry_plans.specs.Plans.{AreParts, HasRoomIf, IsOver, IsPlanned, IsReportIn, IsTooLong, IsUnplanned, marks_for};
+ghost use Rattle.seat_rules.specs.Journal.{FitsChange, IsLegal};
+ghost use Rattle.carry_plans.specs.Plans.{AreCourses, AreFollowed, AreParts, HasRoomIf, IsOver, IsReportIn, IsReportOf, IsTooLong, IsUnplanned, marks_for};
+ghost use Rattle.carry_plans.specs.Promises.{IsPromised};
 
 use crate::asked::CarryAsked;
 use crate::choosing::{Chosen, choose};
 use crate::fault::CarryFault;
+use crate::protecting::{courses_of, pass_twice, pass_unsold};
 use airline_base::{Day, Items};
 use carry_limits::{ByFlight, Over, Seasons, by_flight, changes_for, overs, put_overs};
 use carry_lines::{Mark, carried};
 use carry_marks::marks_of;
-use carry_reports::{Carried, fates, report};
+use carry_order::{Numbered, by_number};
+use carry_protections::Course;
+use carry_reports::{Carried, fates};
+use carry_tables::report_as;
 use seat_carrying::Owned;
 use seat_core::Core;
 use seat_journal::Change;
 use seat_nesting::Grid;
-use seat_rules::CoreFault;
+use seat_rules::{Booking, CoreFault};
+use seat_tables::Form;
 use ssim_flights::{Flights, Served};
 use std::alloc::{AllocError, Global};
 
@@ -42,24 +48,26 @@ pub(crate) struct Planned {
 
 /// The live bookings that are asked for, and the same by their new flights.
 #[derive(Drop)]
-struct Parts {
-    chosen: Chosen,
-    by: ByFlight,
+pub(crate) struct Parts {
+    pub chosen: Chosen,
+    pub by: ByFlight,
 }
 
 /// The new inventory of the live bookings, over the file's limits of the new flights, and the report; or why there is none.
-#[tactic(auto, using(crate::proofs::Parts::of_memory))]
+#[tactic(auto, using(crate::proofs::Parts::of_memory, crate::proofs::Protections::same_rows))]
 pub(crate) fn plan(
     alloc: Global,
-    asked: &CarryAsked,
+    asked: &CarryAsked<'_>,
     olds: &Flights,
     before: &Core,
     news: &Flights,
     file: &Grid,
 ) -> Result<Planned, CarryFault>
+    requires size { length asked.now.protections.now < 2 ^ 32 }
     requires grid { IsGridOf olds.now before.now.grid }
     requires file { HasLegsOf file.now news.now }
-    ensures planned { IfOk result (λ p. IsPlanned asked.now olds.now before.now news.now file.now p.after p.report) }
+    requires ladders { IsGridOf news.now file.now }
+    ensures promised { IfOk result (λ p. IsPromised asked.now olds.now before.now news.now file.now p.after p.report) }
     ensures fault { IfErr result (IsUnplanned asked.now olds.now before.now news.now file.now) }
 {
     let old = match served(alloc, olds) {
@@ -70,18 +78,29 @@ pub(crate) fn plan(
         Ok(new) => new,
         Err(fault) => return Err(fault),
     };
-    let parts = match parted(alloc, asked, olds, &old, before, news, &new, file) {
+    let courses = match courses_of(alloc, asked, olds, &old, before, news, &new, file) {
+        Ok(courses) => courses,
+        Err(fault) => return Err(fault),
+    };
+    let rows = courses.as_slice();
+    let parts = match passed(alloc, asked, rows, olds, &old, before, news, &new, file) {
         Ok(parts) => parts,
         Err(fault) => return Err(fault),
     };
-    plan_of(alloc, asked, olds, &old, before, news, &new, file, &parts)
+    match plan_of(
+        alloc, asked, rows, olds, &old, before, news, &new, file, &parts,
+    ) {
+        Ok(planned) => Ok(planned),
+        Err(fault) => Err(fault),
+    }
 }
 
-/// The live bookings that are asked for, where each leg has seats for them, or those with the highest numbers are to lose.
-#[tactic(auto, using(crate::proofs::Parts::of_memory, crate::proofs::Parts::over_of, crate::proofs::Parts::parts_of))]
+/// The live bookings that are asked for, and the same by their new flights.
+#[tactic(auto, using(crate::proofs::Parts::of_memory, crate::proofs::Parts::parts_of))]
 fn parted(
     alloc: Global,
-    asked: &CarryAsked,
+    asked: &CarryAsked<'_>,
+    courses: &[Course],
     olds: &Flights,
     old: &Served<'_>,
     before: &Core,
@@ -92,28 +111,66 @@ fn parted(
     requires grid { IsGridOf olds.now before.now.grid }
     requires old { old.now ≡ olds.now }
     requires new { new.now ≡ news.now }
-    ensures parts { IfOk result (λ p. AreParts asked.now olds.now before.now news.now file.now p.chosen.live.items p.chosen.kept.items p.by) }
+    ensures parts { IfOk result (λ p. AreParts asked.now courses.now olds.now before.now news.now file.now p.chosen.live.items p.chosen.kept.items p.by) }
     ensures owned { IfOk result (λ p. All (IsOwned file.now) p.chosen.kept.items) }
-    ensures room { IfOk result (λ p. HasRoomIf asked.now.displaces news.now file.now p.by) }
+    ensures legal { OnOk result (IsLegal before.now.grid before.now.journal) }
     ensures fault { IfErr result (IsUnplanned asked.now olds.now before.now news.now file.now) }
 {
-    let Ok(chosen) = choose(alloc, before, olds, old, new, asked.today, file) else {
+    let Ok(chosen) = choose(alloc, asked, courses, before, olds, old, new, file) else {
         return Err(CarryFault::Memory);
     };
     let Ok(by) = by_flight(alloc, news.len(), chosen.kept.as_slice()) else {
         return Err(CarryFault::Memory);
     };
-    match pass_overs(alloc, asked.displaces, news, file, &by) {
-        Ok(()) => Ok(Parts { chosen, by }),
+    Ok(Parts { chosen, by })
+}
+
+/// The same, where each row that says where bookings go is followed, and each leg has seats for them, or those who are asked for last are to lose.
+#[tactic(auto, using(crate::proofs::Parts::over_of, crate::proofs::Protections::followed_of))]
+fn passed(
+    alloc: Global,
+    asked: &CarryAsked<'_>,
+    courses: &[Course],
+    olds: &Flights,
+    old: &Served<'_>,
+    before: &Core,
+    news: &Flights,
+    new: &Served<'_>,
+    file: &Grid,
+) -> Result<Parts, CarryFault>
+    requires grid { IsGridOf olds.now before.now.grid }
+    requires old { old.now ≡ olds.now }
+    requires new { new.now ≡ news.now }
+    requires courses { AreCourses asked.now olds.now news.now courses.now }
+    ensures parts { IfOk result (λ p. AreParts asked.now courses.now olds.now before.now news.now file.now p.chosen.live.items p.chosen.kept.items p.by) }
+    ensures followed { IfOk result (λ p. AreFollowed asked.now courses.now olds.now before.now news.now file.now p.chosen.live.items p.by) }
+    ensures owned { IfOk result (λ p. All (IsOwned file.now) p.chosen.kept.items) }
+    ensures legal { OnOk result (IsLegal before.now.grid before.now.journal) }
+    ensures room { IfOk result (λ p. HasRoomIf asked.now.displaces news.now file.now p.by) }
+    ensures fault { IfErr result (IsUnplanned asked.now olds.now before.now news.now file.now) }
+{
+    let parts = match parted(alloc, asked, courses, olds, old, before, news, new, file) {
+        Ok(parts) => parts,
+        Err(fault) => return Err(fault),
+    };
+    if let Err(fault) = pass_unsold(asked, courses, olds, old, before, news, new, file, &parts) {
+        return Err(fault);
+    }
+    if let Err(fault) = pass_twice(asked, courses, olds, before, news, file, &parts) {
+        return Err(fault);
+    }
+    match pass_overs(alloc, asked.displaces, news, file, &parts.by) {
+        Ok(()) => Ok(parts),
         Err(fault) => Err(fault),
     }
 }
 
 /// The new inventory of these bookings, and the report.
-#[tactic(auto, using(crate::proofs::Parts::of_memory, crate::proofs::Parts::full_of, crate::proofs::Parts::planned_of))]
+#[tactic(auto, using(crate::proofs::Parts::of_memory, crate::proofs::Parts::full_of))]
 fn plan_of(
     alloc: Global,
-    asked: &CarryAsked,
+    asked: &CarryAsked<'_>,
+    courses: &[Course],
     olds: &Flights,
     old: &Served<'_>,
     before: &Core,
@@ -123,12 +180,15 @@ fn plan_of(
     parts: &Parts,
 ) -> Result<Planned, CarryFault>
     requires file { HasLegsOf file.now news.now }
+    requires ladders { IsGridOf news.now file.now }
+    requires legal { IsLegal before.now.grid before.now.journal }
     requires old { old.now ≡ olds.now }
     requires new { new.now ≡ news.now }
-    requires parts { AreParts asked.now olds.now before.now news.now file.now parts.now.chosen.live.items parts.now.chosen.kept.items parts.now.by }
+    requires parts { AreParts asked.now courses.now olds.now before.now news.now file.now parts.now.chosen.live.items parts.now.chosen.kept.items parts.now.by }
+    requires followed { AreFollowed asked.now courses.now olds.now before.now news.now file.now parts.now.chosen.live.items parts.now.by }
     requires owned { All (IsOwned file.now) parts.now.chosen.kept.items }
     requires room { HasRoomIf asked.now.displaces news.now file.now parts.now.by }
-    ensures planned { IfOk result (λ p. IsPlanned asked.now olds.now before.now news.now file.now p.after p.report) }
+    ensures promised { IfOk result (λ p. IsPromised asked.now olds.now before.now news.now file.now p.after p.report) }
     ensures fault { IfErr result (IsUnplanned asked.now olds.now before.now news.now file.now) }
 {
     let seasons = Seasons {
@@ -155,6 +215,7 @@ fn plan_of(
     let ahead = lines.len() as u32;
     match reported(
         alloc,
+        asked.form,
         asked.today,
         olds,
         old,
@@ -179,7 +240,7 @@ fn served<'a>(alloc: Global, flights: &'a Flights) -> Result<Served<'a>, CarryFa
     }
 }
 
-/// Refuses where a leg of the new season has fewer seats than are held there, unless those with the highest numbers are to lose.
+/// Refuses where a leg of the new season has fewer seats than are held there, unless those who are asked for last are to lose.
 #[tactic(auto, using(crate::proofs::Parts::room_if))]
 fn pass_overs(
     alloc: Global,
@@ -268,6 +329,7 @@ fn asked_anew(
 #[tactic(auto, using(crate::proofs::Parts::report_in))]
 fn reported(
     alloc: Global,
+    form: Option<Form>,
     today: Day,
     olds: &Flights,
     old: &Served<'_>,
@@ -280,7 +342,46 @@ fn reported(
     requires old { old.now ≡ olds.now }
     requires new { new.now ≡ news.now }
     requires few { ahead + length chosen.now.kept.items ≤ 999999 }
-    ensures report { IfOk result (λ text. IsReportIn today olds.now news.now chosen.now.live.items chosen.now.kept.items ahead after.now text) }
+    ensures report { IfOk result (λ text. IsReportIn form today olds.now news.now chosen.now.live.items chosen.now.kept.items ahead after.now text) }
+    ensures memory { IfErr result (λ f. f ≡ CarryFault.Memory) }
+{
+    let Ok(asked) = by_number(alloc, ahead, chosen.kept.as_slice()) else {
+        return Err(CarryFault::Memory);
+    };
+    match reported_of(
+        alloc,
+        form,
+        today,
+        olds,
+        old,
+        news,
+        new,
+        chosen.live.as_slice(),
+        asked.as_slice(),
+        after,
+    ) {
+        Ok(text) => Ok(text),
+        Err(fault) => Err(fault),
+    }
+}
+
+/// The report on these live bookings, of which those that were asked for have their lines.
+#[tactic(auto, using(crate::proofs::Parts::report_of))]
+fn reported_of(
+    alloc: Global,
+    form: Option<Form>,
+    today: Day,
+    olds: &Flights,
+    old: &Served<'_>,
+    news: &Flights,
+    new: &Served<'_>,
+    live: &[Booking],
+    asked: &[Numbered],
+    after: &Core,
+) -> Result<Items<u8>, CarryFault>
+    requires old { old.now ≡ olds.now }
+    requires new { new.now ≡ news.now }
+    ensures report { IfOk result (λ text. IsReportOf form today olds.now news.now live.now asked.now after.now text) }
     ensures memory { IfErr result (λ f. f ≡ CarryFault.Memory) }
 {
     let carried = Carried {
@@ -289,14 +390,13 @@ fn reported(
         news,
         new,
         today,
-        asked: chosen.kept.as_slice(),
-        ahead,
+        asked,
         after,
     };
-    let Ok(all) = fates(alloc, &carried, chosen.live.as_slice()) else {
+    let Ok(all) = fates(alloc, &carried, live) else {
         return Err(CarryFault::Memory);
     };
-    match report(alloc, olds, news, all.as_slice()) {
+    match report_as(alloc, form, olds, news, all.as_slice()) {
         Ok(text) => Ok(Items::from_vec(text)),
         Err(_) => Err(CarryFault::Memory),
     }

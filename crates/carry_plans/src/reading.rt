@@ -1,6 +1,6 @@
 //! `carry`: two seasons and a journal over the old one, read in order, and what is made of them.
 //! It knows which fault stands ahead of which, and nothing of where bookings go.
-ghost use Rattle.std.specs.Prelude.{◌≡◌, ◌≤◌, IfErr, IfOk, length};
+ghost use Rattle.std.specs.Prelude.{◌≡◌, ◌≤◌, ◌<◌, ◌^◌, IfErr, IfOk, length};
 ghost use Rattle.ssim_flights.specs.Right.{IsOfCentury};
 ghost use Rattle.carry_limits.specs.Legs.{HasLegsOf};
 ghost use Rattle.seat_desk.specs.AuditDesk.{most_journal_bytes};
@@ -8,6 +8,7 @@ ghost use Rattle.seat_desk.specs.Loading.{IsGridOf};
 ghost use Rattle.seat_seal.specs.Fronts.{front_of};
 ghost use Rattle.seat_seal.specs.Imprints.{imprint_of};
 ghost use Rattle.carry_plans.specs.Carries.{IsCarryOf, IsFrom, IsMadeOf, IsOldRead, IsUncarried, IsUnmade, IsUnread};
+ghost use Rattle.carry_plans.specs.Failing.{HasFailedIn, HasOldFailed};
 
 use crate::asked::CarryAsked;
 use crate::carriage::Carriage;
@@ -24,11 +25,11 @@ use std::thread::Threads;
 /// What carries the live bookings of a journal over the old season to the new one. The new season is read and checked first, then the old one, and
 /// last the journal with what stands beside it, by which more must be known of it than its bytes. The first days are in 2000 to 2099, and each
 /// season has 1 to 366.
-#[tactic(auto, using(crate::proofs::Makes::has_legs, crate::proofs::Outcomes::carried_onto, crate::proofs::Outcomes::refused_new, crate::proofs::Outcomes::refused_old, crate::proofs::Outcomes::refused_made))]
+#[tactic(auto, using(crate::proofs::Makes::has_legs, crate::proofs::Outcomes::carried_onto, crate::proofs::Outcomes::refused_new, crate::proofs::Outcomes::refused_old, crate::proofs::Outcomes::refused_made, crate::proofs::Failing::failed_new, crate::proofs::Failing::failed_old, crate::proofs::Failing::failed_made))]
 pub fn desk_carry<R: Threads + Sync, S: NotedRead, L: NotedRead, J: NotedRead>(
     rt: &R,
     alloc: Global,
-    asked: &CarryAsked,
+    asked: &CarryAsked<'_>,
     from: &mut Inputs<S, L>,
     to: &mut Inputs<S, L>,
     journal: &mut J,
@@ -38,9 +39,12 @@ pub fn desk_carry<R: Threads + Sync, S: NotedRead, L: NotedRead, J: NotedRead>(
     requires from_days { (1 ≤ from.old.days) × (from.old.days ≤ 366) }
     requires to_first { IsOfCentury to.old.first }
     requires to_days { (1 ≤ to.old.days) × (to.old.days ≤ 366) }
+    requires rows { length asked.now.protections.now < 2 ^ 32 }
     ensures imprint { IfOk result (λ c. c.entry.journal.imprint ≡ imprint_of (front_of c.text)) }
     ensures ok { IfOk result (IsCarryOf S.remaining L.remaining from.old to.old (J.remaining journal.old) beside.now asked.now) }
     ensures fault { IfErr result (IsUncarried S.remaining L.remaining from.old to.old (J.remaining journal.old) beside.now asked.now) }
+    ensures device { IfErr result (HasFailedIn S.remaining L.remaining S.failure_count L.failure_count J.failure_count from.old from.new to.old to.new
+        journal.old journal.new) }
 {
     let new = match load_based(alloc, to, true) {
         Ok(new) => new,
@@ -65,7 +69,7 @@ struct OldRead {
 }
 
 /// Reads the old season, and a journal that agrees with what stands beside it.
-#[tactic(auto, using(crate::proofs::OldReads::read_of, crate::proofs::OldReads::refused_load, crate::proofs::OldReads::refused_size, crate::proofs::OldReads::refused_seal, crate::proofs::OldReads::unknown_of))]
+#[tactic(auto, using(crate::proofs::OldReads::read_of, crate::proofs::OldReads::refused_load, crate::proofs::OldReads::refused_size, crate::proofs::OldReads::refused_seal, crate::proofs::OldReads::unknown_of, crate::proofs::Failing::failed_load, crate::proofs::Failing::failed_journal, crate::proofs::Failing::failed_seal, crate::proofs::Failing::failed_unsealed))]
 fn old_read<S: NotedRead, L: NotedRead, J: NotedRead>(
     alloc: Global,
     from: &mut Inputs<S, L>,
@@ -78,6 +82,8 @@ fn old_read<S: NotedRead, L: NotedRead, J: NotedRead>(
     ensures grid { IfOk result (λ r. IsGridOf r.loaded.flights r.loaded.grid) }
     ensures size { IfOk result (λ r. length r.bytes.items ≤ most_journal_bytes) }
     ensures fault { IfErr result (IsUnread S.remaining L.remaining from.old (J.remaining journal.old) beside.now) }
+    ensures device { IfErr result (HasOldFailed S.remaining L.remaining S.failure_count L.failure_count J.failure_count from.old from.new
+        journal.old journal.new) }
 {
     let old = match load_based(alloc, from, true) {
         Ok(old) => old,
@@ -104,13 +110,15 @@ fn old_read<S: NotedRead, L: NotedRead, J: NotedRead>(
 fn made_of<R: Threads + Sync>(
     rt: &R,
     alloc: Global,
-    asked: &CarryAsked,
+    asked: &CarryAsked<'_>,
     new: &Based,
     old: OldRead,
 ) -> Result<Carriage, CarryFault>
+    requires rows { length asked.now.protections.now < 2 ^ 32 }
     requires size { length old.bytes.items ≤ most_journal_bytes }
     requires grid { IsGridOf old.loaded.flights old.loaded.grid }
     requires file { HasLegsOf new.now.loaded.grid new.now.loaded.flights }
+    requires ladders { IsGridOf new.now.loaded.flights new.now.loaded.grid }
     ensures imprint { IfOk result (λ c. c.entry.journal.imprint ≡ imprint_of (front_of c.text)) }
     ensures made { IfOk result (IsMadeOf asked.now new.now.loaded.flights new.now.loaded.grid new.now.basis old.loaded.flights old.loaded.grid old.bytes.items old.known) }
     ensures fault { IfErr result (IsUnmade asked.now new.now.loaded.flights new.now.loaded.grid old.loaded.flights old.loaded.grid old.bytes.items) }
