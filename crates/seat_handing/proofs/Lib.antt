@@ -1,3 +1,5 @@
+pub mod Counted
+pub mod Hands
 pub mod Known
 pub mod Marks
 pub mod Ordered

@@ -33,20 +33,6 @@ with_mark days journal era mark other few each is mine =
     (both_are (days && journal && (era && other)) few
     (both_are (days && journal) (era && other) c.0 (both_are era other d.0 mine)) b.1) a.1
 
-its_imprint : (days journal era few each : Bool) → (days && journal && era && few && each) ≡ true → journal ≡ true
-its_imprint days journal era few each is =
-    let a = both_true (days && journal && era && few) each is in
-    let b = both_true (days && journal && era) few a.0 in
-    let c = both_true (days && journal) era b.0 in
-    (both_true days journal c.0).1
-
-imprint_kept : (newer : Belonging) → is_sealed newer ≡ true → is_imprint newer.journal.imprint ≡ true
-unfolding is_sealed
-imprint_kept newer is =
-    (both_true (is_imprint newer.journal.imprint) (nat_le newer.journal.lines 999_999)
-    (its_imprint (is_date newer.first && nat_le 1 newer.days && nat_le newer.days 366) (is_journal newer.journal) (is_era newer.era)
-    (nat_le (length newer.runs) most_runs) (list_all (is_run newer.journal.lines) newer.runs) is)).0
-
 may_be : (known : Belonging) (imprint : Imprint) → is_sealed known ≡ true → is_imprint imprint ≡ true → is_sealed (marked known imprint) ≡ true
 unfolding is_sealed
 may_be known imprint is mine =
@@ -54,24 +40,15 @@ may_be known imprint is mine =
     (nat_le 1 known.era.epoch && nat_le known.era.epoch 999_999 && is_today known.era.today) _ (is_imprint imprint)
     (nat_le (length known.runs) most_runs) (list_all (is_run known.journal.lines) known.runs) is mine
 
-pub newer_keeps : (older : SealEntry) (newer : Belonging) → is_seal (two_entries older (Sealed newer)) ≡ true → is_sealed newer ≡ true
-unfolding is_seal
-newer_keeps older newer rules = (both_true (is_entry older) (is_sealed newer) rules).1
-
--- where both entries keep the rules
-pub may_be_marked : (known newer : Belonging) → is_sealed known ≡ true → is_sealed newer ≡ true
-    → is_sealed (marked known newer.journal.imprint) ≡ true
-may_be_marked known newer is mine = may_be known newer.journal.imprint is (imprint_kept newer mine)
-
 alone : (entry : Belonging) → is_sealed entry ≡ true → HasDigests entry → IsSeal (one_entry (Sealed entry))
 unfolding is_seal
 alone entry is types = record { first = types; second = tt; rules = both_are (is_sealed entry) true is refl }
 
-pub says_carried : (known : Belonging) (newer : Belonging) → is_sealed known ≡ true → is_sealed newer ≡ true
-    → HasDigests (marked known newer.journal.imprint) → SaysCarried newer.journal.imprint (mark_text known newer.journal.imprint)
-says_carried known newer is mine types = record {
-  entry = marked known newer.journal.imprint;
-  is_seal = alone (marked known newer.journal.imprint) (may_be_marked known newer is mine) types;
+pub says_carried : (known : Belonging) (mark : Imprint) → is_sealed known ≡ true → is_imprint mark ≡ true
+    → HasDigests (marked known mark) → SaysCarried mark (mark_text known mark)
+says_carried known mark is mine types = record {
+  entry = marked known mark;
+  is_seal = alone (marked known mark) (may_be known mark is mine) types;
   is_text = refl;
   carried = refl;
 }
@@ -87,17 +64,17 @@ has : (entry : Belonging) (journal : List ℕ) → IsSeal (one_entry (Sealed ent
 has entry journal is its =
     record { said = one_entry (Sealed entry); is = is; text = refl; entry = Sealed entry; found = found entry journal its }
 
-module _ (known newer : Belonging) (is : is_sealed known ≡ true) (mine : is_sealed newer ≡ true) (types : HasDigests (marked known newer.journal.imprint)) where
-  its : (journal : List ℕ) → is_its_journal (Sealed (marked known newer.journal.imprint)) journal ≡ true
-      → HasEntry (mark_text known newer.journal.imprint) journal
+module _ (known : Belonging) (mark : Imprint) (is : is_sealed known ≡ true) (mine : is_imprint mark ≡ true) (types : HasDigests (marked known mark)) where
+  its : (journal : List ℕ) → is_its_journal (Sealed (marked known mark)) journal ≡ true
+      → HasEntry (mark_text known mark) journal
   its journal fits =
-      has (marked known newer.journal.imprint) journal (alone (marked known newer.journal.imprint) (may_be_marked known newer is mine) types) fits
+      has (marked known mark) journal (alone (marked known mark) (may_be known mark is mine) types) fits
 
-  pub names : Names (mark_text known newer.journal.imprint) known.journal.imprint
+  pub names : Names (mark_text known mark) known.journal.imprint
   names = record { each = λ journal same. its journal (is_itself known.journal journal same) }
 
   pub names_each : (begun : List ℕ) → known.journal.state ≡ Open → known.journal.imprint ≡ imprint_of begun
-      → NamesEach (mark_text known newer.journal.imprint) begun
+      → NamesEach (mark_text known mark) begun
   names_each begun is_open same = record { each = λ more. its (begun ++ more) (begins_so known.journal begun more is_open same) }
 
 -- ---- the newer journal and its seal alone

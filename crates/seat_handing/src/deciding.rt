@@ -1,17 +1,19 @@
 //! Whether the bookings of a journal may be carried to a newer one.
-//! It knows the mark of an entry, and the bytes that stand under the newer journal's name.
+//! It knows the mark of an entry, and the bytes that stand under the newer journal's name and beside it.
 ghost use Rattle.std.specs.Prelude.{◌≡◌, Err, Ok, Some, if◌then◌else◌, option_map};
 ghost use Rattle.seat_seal.specs.Comparing.{same_imprint};
-ghost use Rattle.seat_handing.specs.Deciding.{hand_for, may_be_put, stands};
+ghost use Rattle.seat_sealing.specs.Older.{IsSealIn};
+ghost use Rattle.seat_handing.specs.Deciding.{IsHand, finish_for, hand_for, is_mark_of, is_sealed_alone, is_whole, may_be_put, names_alone, stands};
 
-use seat_seal::{Imprint, Sealed, front_of, imprint_of};
+use crate::marking::{mark_of, may_be_marked};
+use seat_seal::{Imprint, Seal, SealEntry, Sealed, front_of, imprint_of, read_seal};
 
 /// What is done with the mark as the newer journal is written.
 #[derive(Clone, Copy, Debug, PartialEq, Eq)]
 pub enum Hand {
     /// The bookings were not carried yet: the older journal is marked.
     Mark,
-    /// They were carried to this very journal, which is to be finished.
+    /// They were carried to this very journal under this very name, which is to be finished.
     Finish,
     /// They were carried to another one, which doesn't stand there, and this one is to take its place.
     Anew,
@@ -26,45 +28,120 @@ pub enum HandRefusal {
     New,
 }
 
-/// What is done where a journal of this entry is carried to the one with this imprint and this text, as whole bytes stand `there` under its name:
-/// `None` where no file has it. Another journal to which the bookings were carried is given up only where `anew` says so. Nothing but these very bytes is
-/// ever replaced.
+/// What is done where a journal of this entry is carried to the one of this name and this text, as the bytes `there` stand under that name, and a seal
+/// of the text `beside`: each `None` where no file is. Nothing is to be done, `None`, where the bookings were carried to this very journal, and it
+/// and its seal are whole. Another journal to which they were carried is given up only where `anew` says so. Nothing but these very bytes is ever
+/// replaced.
+#[tactic(auto, using(crate::proofs::Hands::hand_is))]
 pub fn may_hand(
     known: &Sealed,
-    newer: &Imprint,
+    name: &str,
     there: Option<&[u8]>,
+    beside: Option<&[u8]>,
     text: &[u8],
     anew: bool,
-) -> Result<Hand, HandRefusal>
-    ensures { result ≡ hand_for known.now.era.carried newer.now (option_map (λ bytes. bytes.now) there.entry) text.now anew }
+) -> Result<Option<Hand>, HandRefusal>
+    ensures { IsHand known.now.era.carried name.now (option_map (λ bytes. bytes.now) there.entry) (option_map (λ text. text.now) beside.entry)
+        text.now anew result }
 {
-    match &known.era.carried {
-        Some(mark) => hand_behind(mark, newer, there, text, anew),
-        None => put_as(Hand::Mark, there, text),
+    let seal = seal_in(beside);
+    hand_for(&known.era.carried, name, there, &seal, text, anew)
+}
+
+#[tactic(auto, using(crate::proofs::Hands::read_in))]
+fn seal_in(text: Option<&[u8]>) -> Option<Seal>
+    ensures { IsSealIn (option_map (λ text. text.now) text.entry) result }
+{
+    match text {
+        Some(text) => read_seal(text),
+        None => None,
+    }
+}
+
+fn hand_for(
+    carried: &Option<Imprint>,
+    name: &str,
+    there: Option<&[u8]>,
+    seal: &Option<Seal>,
+    text: &[u8],
+    anew: bool,
+) -> Result<Option<Hand>, HandRefusal>
+    ensures { result ≡ hand_for carried.now name.now (option_map (λ bytes. bytes.now) there.entry) seal.now text.now anew }
+{
+    match carried {
+        Some(mark) => hand_behind(mark, name, there, seal, text, anew),
+        None => put_as(Some(Hand::Mark), there, text),
     }
 }
 
 /// The same behind this mark.
 fn hand_behind(
     mark: &Imprint,
-    newer: &Imprint,
+    name: &str,
     there: Option<&[u8]>,
+    seal: &Option<Seal>,
     text: &[u8],
     anew: bool,
-) -> Result<Hand, HandRefusal>
-    ensures { result ≡ hand_for (Some mark.now) newer.now (option_map (λ bytes. bytes.now) there.entry) text.now anew }
+) -> Result<Option<Hand>, HandRefusal>
+    ensures { result ≡ hand_for (Some mark.now) name.now (option_map (λ bytes. bytes.now) there.entry) seal.now text.now anew }
 {
-    if same_imprint(mark, newer) {
-        return put_as(Hand::Finish, there, text);
+    if is_mark_of(mark, name, text) {
+        return put_as(finish_for(there, seal, text), there, text);
     }
-    if !anew || stands(mark, there) {
+    if !anew || stands(mark, name, there) {
         return Err(HandRefusal::Unfinished);
     }
-    put_as(Hand::Anew, there, text)
+    put_as(Some(Hand::Anew), there, text)
+}
+
+/// What is left to be done of a journal that was begun.
+fn finish_for(there: Option<&[u8]>, seal: &Option<Seal>, text: &[u8]) -> Option<Hand>
+    ensures { result ≡ finish_for (option_map (λ bytes. bytes.now) there.entry) seal.now text.now }
+{
+    if is_whole(there, seal, text) {
+        None
+    } else {
+        Some(Hand::Finish)
+    }
+}
+
+fn is_whole(there: Option<&[u8]>, seal: &Option<Seal>, text: &[u8]) -> bool
+    ensures { result ≡ is_whole (option_map (λ bytes. bytes.now) there.entry) seal.now text.now }
+{
+    match there {
+        Some(bytes) => bytes == text && is_sealed_alone(seal, text),
+        None => false,
+    }
+}
+
+fn is_sealed_alone(seal: &Option<Seal>, text: &[u8]) -> bool
+    ensures { result ≡ is_sealed_alone seal.now text.now }
+{
+    match seal {
+        Some(seal) => names_alone(&seal.first, &seal.second, text),
+        None => false,
+    }
+}
+
+/// Whether this is the seal of the newer journal and of no other.
+fn names_alone(first: &SealEntry, second: &Option<SealEntry>, text: &[u8]) -> bool
+    ensures { result ≡ names_alone first.now second.now text.now }
+{
+    match first {
+        SealEntry::Sealed(entry) => match second {
+            Some(_) => false,
+            None => same_imprint(&entry.journal.imprint, &imprint_of(front_of(text))),
+        },
+        SealEntry::Other(_) => false,
+    }
 }
 
 /// So, unless other bytes would be lost.
-fn put_as(hand: Hand, there: Option<&[u8]>, text: &[u8]) -> Result<Hand, HandRefusal>
+fn put_as(
+    hand: Option<Hand>,
+    there: Option<&[u8]>,
+    text: &[u8],
+) -> Result<Option<Hand>, HandRefusal>
     ensures { result ≡ (if may_be_put (option_map (λ bytes. bytes.now) there.entry) text.now then Ok hand else Err HandRefusal.New) }
 {
     if may_be_put(there, text) {
@@ -85,14 +162,24 @@ fn may_be_put(there: Option<&[u8]>, text: &[u8]) -> bool
     }
 }
 
-/// Whether the journal that a mark names stands there.
-fn stands(mark: &Imprint, there: Option<&[u8]>) -> bool
-    ensures { result ≡ stands mark.now (option_map (λ bytes. bytes.now) there.entry) }
+/// Whether the journal that a mark names stands there, under this name.
+fn stands(mark: &Imprint, name: &str, there: Option<&[u8]>) -> bool
+    ensures { result ≡ stands mark.now name.now (option_map (λ bytes. bytes.now) there.entry) }
 {
     match there {
-        Some(bytes) => same_imprint(mark, &imprint_of(front_of(bytes))),
+        Some(bytes) => is_mark_of(mark, name, bytes),
         None => false,
     }
+}
+
+/// Whether the mark is that of the journal of this name and this text.
+fn is_mark_of(mark: &Imprint, name: &str, text: &[u8]) -> bool
+    ensures { result ≡ is_mark_of mark.now name.now text.now }
+{
+    if !may_be_marked(name, text) {
+        return false;
+    }
+    same_imprint(mark, &mark_of(name, text))
 }
 
 fn same_imprint(one: &Imprint, other: &Imprint) -> bool

@@ -11,4 +11,4 @@ mod putting;
 pub use deciding::{Hand, HandRefusal, may_hand};
 pub use handing::{HandFault, hand_over};
 pub use laws::what_is_marked_is_known;
-pub use marking::marked;
+pub use marking::may_be_marked;
