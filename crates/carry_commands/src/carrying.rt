@@ -1,23 +1,27 @@
 //! `carry`: what is read, what is made, and what is written.
-ghost use Rattle.std.specs.Prelude.{◌≡◌, ◌≤◌, IsTrue, true};
+ghost use Rattle.std.specs.Prelude.{◌≡◌, ◌≤◌, IsTrue, length, string_bytes, true};
 ghost use Rattle.seat_seal.specs.Fronts.{front_of};
 ghost use Rattle.seat_seal.specs.Imprints.{imprint_of};
 ghost use Rattle.seat_seal.specs.Reading.{two_entries};
-ghost use Rattle.seat_seal.specs.Rules.{is_seal, is_sealed};
+ghost use Rattle.seat_seal.specs.Rules.{is_imprint, is_seal, is_sealed};
 ghost use Rattle.seat_seal.specs.declared.seal.SealEntry.TheVariants.{Sealed as IsSealed};
+ghost use Rattle.seat_handing.specs.Marking.{mark_of};
 ghost use Rattle.ssim_flights.specs.Right.{IsOfCentury};
 
 use crate::inputs::{Seasons, made, seasons_of, unmade};
-use crate::placing::{Newer, Older, failed, newer_locked, older_locked, standing};
+use crate::lists::{order_of, protections_of};
+use crate::placing::{Newer, Older, failed, newer_locked, newer_named, older_locked, standing};
 use airline_base::put_all;
 use carry_plans::{Carriage, CarryAsked};
 use command_inputs::{day_of_run, days_of};
 use progress_meter::Meter;
+use question_words::form_asked;
 use seat_desk::DeskFault;
 use seat_files::{CarryKind, Output, Refusal, SealFile, Shown, TOO_LONG, metered_output, opened};
-use seat_handing::{Hand, HandFault, HandRefusal, hand_over, may_hand};
+use seat_handing::{Hand, HandFault, HandRefusal, hand_over, may_be_marked, may_hand};
 use seat_seal::{Beside, SealEntry, is_sealed};
 use seat_sealing::{entry_beside, may_be_sealed};
+use seat_tables::Form;
 use seat_words::{CarryJob, Horizon};
 use std::thread::Threads;
 
@@ -34,10 +38,22 @@ pub fn carry<'a, R: Threads + Sync>(
     let from_days = days_of(from.first, from.days)?;
     let to_days = days_of(to.first, to.days)?;
     let today = day_of_run(asked.today)?;
+    let form: Option<Form> = form_asked(asked.shape, false)?;
+    if !asked.dry_run {
+        newer_named(rt, asked.new)?;
+    }
+    let protections = match protections_of(rt, asked.protections) {
+        Ok(bytes) => bytes,
+        Err(refusal) => return Err(refusal),
+    };
+    let order = order_of(rt, asked.order)?;
     let asking = CarryAsked {
         today,
+        protections: protections.as_slice(),
+        order: order.as_slice(),
         displaces: asked.displaces,
         fresh_limits: asked.fresh_limits,
+        form,
     };
     let mut seasons = match seasons_of(rt, from, from_days, to, to_days) {
         Ok(seasons) => seasons,
@@ -71,13 +87,14 @@ fn tried<'a, R: Threads + Sync>(
     threads: &R,
     meter: &'a Meter,
     asked: &CarryJob<'a>,
-    asking: &CarryAsked,
+    asking: &CarryAsked<'_>,
     seasons: &mut Seasons<'a>,
 ) -> Result<bool, Refusal<'a>>
     requires from_first { IsOfCentury seasons.old.from.first }
     requires from_days { (1 ≤ seasons.old.from.days) × (seasons.old.from.days ≤ 366) }
     requires to_first { IsOfCentury seasons.old.to.first }
     requires to_days { (1 ≤ seasons.old.to.days) × (seasons.old.to.days ≤ 366) }
+    requires rows { length asking.now.protections.now ≤ 16777216 }
 {
     let mut journal = opened(rt, asked.journal)?;
     let seal = SealFile::beside(rt, &journal, true)?;
@@ -96,7 +113,7 @@ fn tried<'a, R: Threads + Sync>(
             Ok(false)
         }
         Err(fault) => {
-            let lines = unmade(fault, seasons, &journal, asked.new)?;
+            let lines = unmade(fault, seasons, &journal, asked)?;
             write(&mut out, lines.as_slice())?;
             Ok(true)
         }
@@ -109,7 +126,7 @@ fn carried<'a, R: Threads + Sync>(
     threads: &R,
     meter: &'a Meter,
     asked: &CarryJob<'a>,
-    asking: &CarryAsked,
+    asking: &CarryAsked<'_>,
     seasons: &mut Seasons<'a>,
     older: &mut Older<'a>,
     text: &Option<Vec<u8>>,
@@ -118,6 +135,7 @@ fn carried<'a, R: Threads + Sync>(
     requires from_days { (1 ≤ seasons.old.from.days) × (seasons.old.from.days ≤ 366) }
     requires to_first { IsOfCentury seasons.old.to.first }
     requires to_days { (1 ≤ seasons.old.to.days) × (seasons.old.to.days ≤ 366) }
+    requires rows { length asking.now.protections.now ≤ 16777216 }
 {
     let newer = match newer_locked(rt, asked, seasons, older) {
         Ok(newer) => newer,
@@ -137,7 +155,7 @@ fn carried_to<'a, R: Threads + Sync>(
     threads: &R,
     meter: &'a Meter,
     asked: &CarryJob<'a>,
-    asking: &CarryAsked,
+    asking: &CarryAsked<'_>,
     seasons: &mut Seasons<'a>,
     older: &mut Older<'a>,
     text: &Option<Vec<u8>>,
@@ -147,6 +165,7 @@ fn carried_to<'a, R: Threads + Sync>(
     requires from_days { (1 ≤ seasons.old.from.days) × (seasons.old.from.days ≤ 366) }
     requires to_first { IsOfCentury seasons.old.to.first }
     requires to_days { (1 ≤ seasons.old.to.days) × (seasons.old.to.days ≤ 366) }
+    requires rows { length asking.now.protections.now ≤ 16777216 }
 {
     let mut out = metered_output(rt, meter);
     let attempt = made(
@@ -164,7 +183,7 @@ fn carried_to<'a, R: Threads + Sync>(
             Ok(false)
         }
         Err(fault) => {
-            let lines = unmade(fault, seasons, &older.journal, asked.new)?;
+            let lines = unmade(fault, seasons, &older.journal, asked)?;
             write(&mut out, lines.as_slice())?;
             Ok(true)
         }
@@ -183,7 +202,8 @@ fn beside_of(text: &Option<Vec<u8>>) -> Beside<'_> {
     }
 }
 
-/// Hands the journal's bookings over to the new one, where that may be written.
+/// Hands the journal's bookings over to the new one, where that may be written, and says the report again where they were handed over to it
+/// before.
 fn handed<'a>(
     rt: &HostRuntime,
     asked: &CarryJob<'a>,
@@ -197,17 +217,23 @@ fn handed<'a>(
 {
     let (there, stood) = standing(newer)?;
     let before = entry_beside(slice_of(&stood), &there);
-    if !is_sealed(&carriage.known) || !may_be_sealed(&before, &carriage.entry) {
+    let text_of_new = carriage.text.as_slice();
+    if !is_sealed(&carriage.known)
+        || !may_be_sealed(&before, &carriage.entry)
+        || !may_be_marked(newer.path.as_str(), text_of_new)
+    {
         return Err(Refusal::barred(asked.new, TOO_LONG));
     }
     let hand = match may_hand(
         &carriage.known,
-        &carriage.entry.journal.imprint,
+        newer.path.as_str(),
         Some(&there),
-        carriage.text.as_slice(),
+        slice_of(&stood),
+        text_of_new,
         asked.anew,
     ) {
-        Ok(hand) => hand,
+        Ok(Some(hand)) => hand,
+        Ok(None) => return write(out, carriage.report.as_slice()),
         Err(HandRefusal::Unfinished) => {
             return Err(Refusal::of_carry(CarryKind::Unfinished, asked.journal));
         }
@@ -244,6 +270,7 @@ fn put<'a>(
 ) -> Result<(), Refusal<'a>>
     requires known { is_sealed carriage.known ≡ true }
     requires rules { IsTrue (is_seal (two_entries before (IsSealed carriage.entry))) }
+    requires fits { is_imprint (mark_of (string_bytes newer.old.path) carriage.text) ≡ true }
     requires imprint { carriage.entry.journal.imprint ≡ imprint_of (front_of carriage.text) }
 {
     let Carriage {
@@ -258,6 +285,7 @@ fn put<'a>(
         bytes_of(seal_text),
         before,
         entry,
+        newer.path.as_str(),
         text.as_slice(),
         report.as_slice(),
         &mut older.seal,

@@ -1,9 +1,10 @@
 //! The two seasons of a carry, open, and what is made of them and a journal.
-ghost use Rattle.std.specs.Prelude.{◌≡◌, ◌≤◌, IfOk};
+ghost use Rattle.std.specs.Prelude.{◌≡◌, ◌≤◌, IfOk, length};
 ghost use Rattle.seat_seal.specs.Fronts.{front_of};
 ghost use Rattle.seat_seal.specs.Imprints.{imprint_of};
 ghost use Rattle.ssim_flights.specs.Right.{IsOfCentury};
 
+use crate::lists::of_row;
 use airline_base::{Day, Items};
 use carry_plans::{Carriage, CarryAsked, CarryFault, desk_carry};
 use command_inputs::{inputs_of, meter_input, meter_inputs};
@@ -12,7 +13,7 @@ use season_changes::SeasonFault;
 use seat_desk::{DeskFault, Inputs};
 use seat_files::{Input, Refusal};
 use seat_seal::{Beside, SealFault};
-use seat_words::Horizon;
+use seat_words::{CarryJob, Horizon};
 use std::thread::Threads;
 
 /// The set and the limits of the old season, and of the new one.
@@ -51,7 +52,7 @@ pub(crate) fn made<'a, R: Threads + Sync>(
     rt: &HostRuntime,
     threads: &R,
     meter: &'a Meter,
-    asked: &CarryAsked,
+    asked: &CarryAsked<'_>,
     seasons: &mut Seasons<'a>,
     journal: &mut Input<'a>,
     beside: &Beside<'_>,
@@ -60,6 +61,7 @@ pub(crate) fn made<'a, R: Threads + Sync>(
     requires from_days { (1 ≤ seasons.old.from.days) × (seasons.old.from.days ≤ 366) }
     requires to_first { IsOfCentury seasons.old.to.first }
     requires to_days { (1 ≤ seasons.old.to.days) × (seasons.old.to.days ≤ 366) }
+    requires rows { length asked.now.protections.now ≤ 16777216 }
     ensures imprint { IfOk result (λ c. c.entry.journal.imprint ≡ imprint_of (front_of c.text)) }
 {
     meter_inputs(rt, meter, &mut seasons.from);
@@ -81,7 +83,7 @@ pub(crate) fn unmade<'a>(
     fault: CarryFault,
     seasons: &Seasons<'a>,
     journal: &Input<'a>,
-    new: &'a str,
+    asked: &CarryJob<'a>,
 ) -> Result<Items<u8>, Refusal<'a>> {
     match fault {
         CarryFault::Over(lines) => Ok(lines),
@@ -90,7 +92,8 @@ pub(crate) fn unmade<'a>(
             let refusal = Refusal::from(DeskFault::Seal(SealFault::Missing));
             Err(refusal.noting_all(&[&*journal]))
         }
-        CarryFault::Full => Err(Refusal::from(DeskFault::TooLarge).at(new, None)),
+        CarryFault::Row(fault) => Err(of_row(fault, asked.protections)),
+        CarryFault::Full => Err(Refusal::from(DeskFault::TooLarge).at(asked.new, None)),
         CarryFault::Memory => Err(Refusal::from(DeskFault::Memory)),
     }
 }

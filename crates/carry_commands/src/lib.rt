@@ -4,6 +4,7 @@
 
 mod carrying;
 mod inputs;
+mod lists;
 mod placing;
 
 pub use carrying::carry;

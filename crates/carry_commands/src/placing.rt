@@ -4,6 +4,7 @@ use crate::inputs::Seasons;
 use seat_desk::DeskFault;
 use seat_files::{Guard, Input, JournalFile, Refusal, SealOut, files_taken};
 use seat_words::CarryJob;
+use std::fs;
 
 /// Why a new journal that is a pipe or a device is refused: it can't be written once more where a carry did not end.
 const NO_FILE: &str = "Is no regular file";
@@ -37,11 +38,23 @@ pub(crate) fn older_locked<'a>(
     }
 }
 
+/// Refuses a name that a new journal may not have, and what stands there and is no regular file: the opening of a pipe would wait for who
+/// reads it.
+pub(crate) fn newer_named<'a>(rt: &HostRuntime, new: &'a str) -> Result<(), Refusal<'a>> {
+    let _guard = Guard::new(rt, new)?;
+    match fs::metadata(rt, new) {
+        Ok(there) if !there.is_file() => Err(Refusal::barred(new, NO_FILE)),
+        _ => Ok(()),
+    }
+}
+
 /// The new journal under its lock, and its seal.
 #[derive(Drop)]
 pub(crate) struct Newer<'a> {
     pub journal: JournalFile<'a>,
     pub seal: SealOut<'a>,
+    /// Where its name leads from the root, through links: it is the same journal by whatever name and from whatever folder.
+    pub path: String,
 }
 
 impl<'a> Newer<'a> {
@@ -76,15 +89,33 @@ pub(crate) fn newer_locked<'a>(
         &[&seasons.to.set, &seasons.to.limits, &older.journal],
     )?;
     let journal = JournalFile::open(rt, asked.new, files.as_slice())?;
-    if journal.path().is_none() {
-        return Err(Refusal::barred(asked.new, NO_FILE));
-    }
+    let path = match path_of(rt, &journal) {
+        Ok(path) => path,
+        Err(refusal) => {
+            journal.leave();
+            return Err(refusal);
+        }
+    };
     match SealOut::beside(rt, &journal, files.as_slice()) {
-        Ok(seal) => Ok(Newer { journal, seal }),
+        Ok(seal) => Ok(Newer {
+            journal,
+            seal,
+            path,
+        }),
         Err(refusal) => {
             journal.leave();
             Err(refusal)
         }
+    }
+}
+
+fn path_of<'a>(rt: &HostRuntime, journal: &JournalFile<'a>) -> Result<String, Refusal<'a>> {
+    let Some(path) = journal.path() else {
+        return Err(Refusal::barred(journal.name(), NO_FILE));
+    };
+    match format!(in rt.alloc(); "{path}") {
+        Ok(path) => Ok(path),
+        Err(_) => Err(Refusal::from(DeskFault::Memory)),
     }
 }
 

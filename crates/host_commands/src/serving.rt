@@ -252,7 +252,7 @@ fn dated<'a, R: Threads + Wait + Copy + Send + 'static>(
     ensures later { IfOk result (λ r. IsNotEarlier seal.now bytes.now r.0) }
 {
     match clients {
-        Clients::Feed(fed) => match stream_dated(rt, waits, fed, seal, bytes) {
+        Clients::Feed(fed) => match stream_beside(rt, waits, fed, seal, basis, bytes, journal) {
             Ok((today, stream)) => Ok((today, Clients::Feed(stream))),
             Err(refusal) => Err(refusal),
         },
@@ -481,6 +481,25 @@ fn day_said(today: Option<&str>) -> Result<Option<Day>, WordFault>
         Some(today) => Ok(Some(day_of_run(today)?)),
         None => Ok(None),
     }
+}
+
+/// The feed, and the day of its host, where what stands beside the journal doesn't refuse it: nothing of a feed is read ahead of that.
+fn stream_beside<'a, R: Threads + Wait + Copy + Send + 'static>(
+    rt: &HostRuntime,
+    waits: &R,
+    fed: Fed,
+    seal: &Beside<'_>,
+    basis: &Basis,
+    bytes: &[u8],
+    journal: &'a str,
+) -> Result<(Day, Stream<R>), Refusal<'a>>
+    ensures century { IfOk result (λ r. IsCenturyDay r.0) }
+    ensures later { IfOk result (λ r. IsNotEarlier seal.now bytes.now r.0) }
+{
+    if let Err(NoDay::Refused(fault)) = host_day(seal, basis, bytes, None) {
+        return Err(Refusal::from(fault).at(journal, None));
+    }
+    stream_dated(rt, waits, fed, seal, bytes)
 }
 
 /// The day of the host: the one that is said, or else that of the journal's seal.

@@ -127,7 +127,7 @@ const ROOMS: &[Explanation] = &[
         behind: "",
         code: "SUMS",
         numbers: NONE,
-        text: "Of loads: the legs above it, the seats held on them of the sum of their highest limits, what part of that is held,\nper mille, the passengers who hold seats there, and those who wait, each booking once.\nOf pickup: the sums of the columns above it.\nOf compare: how many flights are gone, added, have other legs or other limits, and how many are not compared, since only one of the\nseasons has their day; held, waiting: the seats on those with a line.",
+        text: "Of loads: the legs above it, the seats held on them of the sum of their highest limits, what part of that is held,\nper mille, the passengers who hold seats there, and those who wait, each booking once.\nOf pickup: the sums of the columns above it.\nOf compare: how many flights are gone, added, have other legs or other limits, and how many are not compared, since only one of the\nseasons has their day; held, waiting: the seats on those with a line.\nOf carry: behind each code how many of the bookings have it, and their seats.",
     },
 ];
 
@@ -207,7 +207,7 @@ const REASONS: &[Explanation] = &[
         behind: "",
         code: "NONE",
         numbers: NONE,
-        text: "Of why, RIGHT NONE: no reply is right, since the line asks for a place that is not there, for no seats,\nor for more than 999.",
+        text: "Of why, RIGHT NONE: no reply is right, since the line asks for a place that is not there, for no seats,\nor for more than 999.\nOf reconcile: behind theirs, the list has no line of this booking; behind here, the journal leaves no such booking,\nor with --session another session made it.",
     },
 ];
 
@@ -433,13 +433,13 @@ const CARRIED: &[Explanation] = &[
         behind: "",
         code: "DEPARTED",
         numbers: NONE,
-        text: "Of carry: the booking departed before the day of --today, and is not carried.",
+        text: "Of carry: the booking departed before the day of --today, and is not carried. In a table its code is empty.",
     },
     Explanation {
         behind: "",
         code: "OVER",
         numbers: NONE,
-        text: "Of carry: on this leg of the new season more seats are held than it has. held: the seats, of: the highest limit. Nothing was written:\nlet the season of --to have the limits, or say --displace, by which the bookings of the highest numbers lose their seats.",
+        text: "Of carry: on this leg of the new season more seats are held than it has. held: the seats, of: the highest limit. Nothing was written:\nlet the season of --to have the limits, or say --displace, by which the bookings of the highest numbers lose their seats,\nthose whose locators --order names last.",
     },
 ];
 

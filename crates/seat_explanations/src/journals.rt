@@ -103,6 +103,6 @@ pub(crate) const ENTRIES: &[Explanation] = &[
         behind: "",
         code: "P9",
         numbers: &["entry", "journal with a line of its flight"],
-        text: "audit --shards takes journals of hosts that have different flights, and two of these have a line of one flight.\nThe number ahead of the code is the journal's place among the words, and the entry is its first on such a flight.",
+        text: "--shards takes journals of hosts that have different flights, and two of these have a line of one flight.\nThe number ahead of the code is the journal's place among the words, and the entry is its first on such a flight.",
     },
 ];

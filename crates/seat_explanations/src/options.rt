@@ -21,7 +21,7 @@ pub(crate) const WORDS: &[Explanation] = &[
         behind: "E2",
         code: "shards",
         numbers: NONE,
-        text: "--shards of audit takes journals as they stand: it is beside none of --after, --behind, --today, --refused, --sealed and --open.\nOf route: it is no number of 1 to 999, in at most three digits.",
+        text: "--shards of audit takes journals as they stand: it is beside none of --after, --behind, --today, --refused, --sealed and --open.\nOf loads and waiting: it needs a JOURNAL and is not beside --open, and more than one JOURNAL needs it.\nOf route: it is no number of 1 to 999, in at most three digits.",
     },
     Explanation {
         behind: "E2",
@@ -99,7 +99,7 @@ pub(crate) const WORDS: &[Explanation] = &[
         behind: "E2",
         code: "journal",
         numbers: NONE,
-        text: "The file of --journal is one of the inputs, other than the journals of --after and --resume, as JOURNAL of carry is one, or that of standard output or of standard error (where nothing is said of it, since that would stand in the journal),\nor another run, seatdesk seal or a host has it, as it may have the journal that is to be served, sealed, recovered or carried, or its name is - or ends in .seal, .unfinished or .kept-N,\nor what is called as its seal is another file of the command or no regular file, or --no-clobber keeps it: it is there and not empty. Nothing was written. seatdesk -v says which of these it is.",
+        text: "The file of --journal is one of the inputs, other than the journals of --after and --resume, as JOURNAL of carry is one, or that of standard output or of standard error (where nothing is said of it, since that would stand in the journal),\nor another run, seatdesk seal or a host has it, as it may have the journal that is to be served, sealed, recovered or carried, or its name is - or ends in .seal, .unfinished or .kept-N,\nor NEW of carry is no regular file, or what is called as its seal is another file of the command or no regular file,\nor --no-clobber keeps it: it is there and not empty. Nothing was written. seatdesk -v says which of these it is.",
     },
     Explanation {
         behind: "E2",

@@ -141,7 +141,7 @@ pub(crate) const SCRIPTS: &[Explanation] = &[
         behind: "",
         code: "C1",
         numbers: LINE,
-        text: "The line is one request more than the 999,999 that a journal has room for.",
+        text: "The line is one request more than the 999,999 that a journal has room for.\nOf loads --shards and waiting --shards: one journal of all has no room for the line. The number ahead of the code is\nthe place among the words of the journal that has it, and lines count from 1, with the head line. audit --shards takes them all the same.",
     },
     Explanation {
         behind: "",

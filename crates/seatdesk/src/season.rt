@@ -10,7 +10,9 @@ use seat_season::{
     Around, MOST_SEASON_BYTES, Season, SeasonKind, TextFault, Words, beside_season, folder_of,
     path_of, season_named, season_of, season_table, seasoned_words,
 };
-use seat_words::{CarryJob, CompareJob, Horizon, Job, WordFault, read_words, words_in_conflict};
+use seat_words::{
+    CarryJob, CompareJob, Horizon, Job, Shape, WordFault, read_words, words_in_conflict,
+};
 use std::alloc::AllocError;
 use std::process::ExitCode;
 use std::sync::Wait;
@@ -116,6 +118,7 @@ pub fn carried<'a, T: Threads + Sync>(
         fresh_limits: asked.fresh_limits,
         anew: asked.anew,
         dry_run: asked.dry_run,
+        shape: asked.shape,
     };
     match carried_over(
         rt,
@@ -127,6 +130,8 @@ pub fn carried<'a, T: Threads + Sync>(
         asked.to,
         asked.today,
         asked.new,
+        asked.protections,
+        asked.order,
         asked.journal,
         how,
     ) {
@@ -191,6 +196,7 @@ struct How {
     fresh_limits: bool,
     anew: bool,
     dry_run: bool,
+    shape: Shape,
 }
 
 // The words of the job one by one: a job stands at one lifetime, and the words of the seasons live shorter.
@@ -204,6 +210,8 @@ fn carried_over<'a, T: Threads + Sync>(
     to: &'a str,
     today: &'a str,
     new: &'a str,
+    protections: Option<&'a str>,
+    order: Option<&'a str>,
     journal: &'a str,
     how: How,
 ) -> Result<bool, Undone<'a>> {
@@ -214,10 +222,13 @@ fn carried_over<'a, T: Threads + Sync>(
         to,
         today,
         new,
+        protections,
+        order,
         displaces: how.displaces,
         fresh_limits: how.fresh_limits,
         anew: how.anew,
         dry_run: how.dry_run,
+        shape: how.shape,
         journal,
     };
     Ok(carry_commands::carry(rt, threads, meter, &job, &over_from, &over_to)?)
