@@ -1,6 +1,6 @@
 """./seatdesk --try WORDS: one command by `rt try`, which compiles it with checks, runs it and proves nothing.
 
-The commands that only read are tried, on inputs without a seal beside them; `run`, `seal`, `recover`, `audit` with scripts, and a season in the place of its four options, are refused. The program is made anew at each use, of the
+The commands that only read are tried, on inputs without a seal beside them; `run`, `seal`, `recover`, `audit` with scripts, `compare`, `carry`, and a season in the place of its four options, are refused. The program is made anew at each use, of the
 one command alone (small_program.py), in a folder that goes away again, and runs in a folder of its own: so each file among the
 words is handed to it under another name. Standard output and the exit status are those of the program. The status is 125 where
 nothing was run or it gave no answer.
@@ -79,6 +79,8 @@ def refuse(words):
         fail("seal writes a seal, and --try is for commands that only read: without --try the program is proved and built, and seals")
     if words.command == "recover":
         fail("recover cuts a journal and ends it, and --try is for commands that only read: without --try the program is proved and built, and recovers")
+    if words.command in ("compare", "carry"):
+        fail(f"{words.command} takes seasons, whose files are not among the words, and --try hands over no others: without --try the program is proved and built, and answers")
     if words.has_season and words.command != "explain":
         fail("--try takes no --season, whose files are not among the words: name --set, --limits, --first and --days, or leave out --try")
     if words.command == "audit" and words.plain > 1:
