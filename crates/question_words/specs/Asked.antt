@@ -11,7 +11,7 @@ use Rattle.seat_words.specs.DayWords.{IsDateWord}
 use Rattle.seat_words.specs.NameWords.{flight_in, pair_word_in}
 use Rattle.seat_words.specs.declared.fault.WordFault.{WordFault}
 use Rattle.seat_words.specs.declared.fault.WordFault.TheVariants.{BadBy, BadDay, BadFlight, BadForm, BadLocator, BadPair}
-use Rattle.seat_words.specs.declared.job.Shape.{Shape}
+use Rattle.seat_words.specs.declared.work.Shape.{Shape}
 use Rattle.question_words.specs.declared.locators.LocatorsFault.{LocatorsFault}
 use Rattle.question_words.specs.declared.locators.LocatorsFault.TheVariants.{Word, Memory}
 use Rattle.question_words.specs.declared.sums.By.{By}

@@ -4,27 +4,27 @@ use Rattle.std.specs.Str.{bytes_eq}
 use Rattle.std.specs.List.{list_all}
 use Rattle.std.specs.Option.{option_map, option_map_or}
 use Rattle.clap.specs.Words.{Row, Text, all_of, first_of}
-use Rattle.seat_words.specs.declared.job.Horizon.{Horizon}
+use Rattle.seat_words.specs.declared.work.Horizon.{Horizon}
 use Rattle.seat_words.specs.declared.job.Job.{Job}
-use Rattle.seat_words.specs.declared.job.Shape.{Shape}
-use Rattle.seat_words.specs.declared.job.CoverJob.{CoverJob}
-use Rattle.seat_words.specs.declared.job.RoomsJob.{RoomsJob}
-use Rattle.seat_words.specs.declared.job.LoadsJob.{LoadsJob}
-use Rattle.seat_words.specs.declared.job.RunJob.{RunJob}
-use Rattle.seat_words.specs.declared.job.ServeJob.{ServeJob}
-use Rattle.seat_words.specs.declared.job.RouteJob.{RouteJob}
-use Rattle.seat_words.specs.declared.job.BookingsJob.{BookingsJob}
-use Rattle.seat_words.specs.declared.job.WaitingJob.{WaitingJob}
-use Rattle.seat_words.specs.declared.job.PickupJob.{PickupJob}
-use Rattle.seat_words.specs.declared.job.HistoryJob.{HistoryJob}
-use Rattle.seat_words.specs.declared.job.AvsJob.{AvsJob}
-use Rattle.seat_words.specs.declared.job.ReconcileJob.{ReconcileJob}
-use Rattle.seat_words.specs.declared.job.CompareJob.{CompareJob}
-use Rattle.seat_words.specs.declared.job.CarryJob.{CarryJob}
-use Rattle.seat_words.specs.declared.job.ChangesJob.{ChangesJob}
-use Rattle.seat_words.specs.declared.job.AuditJob.{AuditJob}
-use Rattle.seat_words.specs.declared.job.RepliesJob.{RepliesJob}
-use Rattle.seat_words.specs.declared.job.ToldJob.{ToldJob}
+use Rattle.seat_words.specs.declared.work.Shape.{Shape}
+use Rattle.seat_words.specs.declared.work.CoverJob.{CoverJob}
+use Rattle.seat_words.specs.declared.work.RoomsJob.{RoomsJob}
+use Rattle.seat_words.specs.declared.work.LoadsJob.{LoadsJob}
+use Rattle.seat_words.specs.declared.work.RunJob.{RunJob}
+use Rattle.seat_words.specs.declared.work.ServeJob.{ServeJob}
+use Rattle.seat_words.specs.declared.work.RouteJob.{RouteJob}
+use Rattle.seat_words.specs.declared.work.BookingsJob.{BookingsJob}
+use Rattle.seat_words.specs.declared.work.WaitingJob.{WaitingJob}
+use Rattle.seat_words.specs.declared.work.PickupJob.{PickupJob}
+use Rattle.seat_words.specs.declared.work.HistoryJob.{HistoryJob}
+use Rattle.seat_words.specs.declared.work.AvsJob.{AvsJob}
+use Rattle.seat_words.specs.declared.work.ReconcileJob.{ReconcileJob}
+use Rattle.seat_words.specs.declared.work.CompareJob.{CompareJob}
+use Rattle.seat_words.specs.declared.work.CarryJob.{CarryJob}
+use Rattle.seat_words.specs.declared.work.ChangesJob.{ChangesJob}
+use Rattle.seat_words.specs.declared.work.AuditJob.{AuditJob}
+use Rattle.seat_words.specs.declared.work.RepliesJob.{RepliesJob}
+use Rattle.seat_words.specs.declared.work.ToldJob.{ToldJob}
 use Rattle.seat_words.specs.declared.job.Job.TheVariants.{Ladder, Check, Flights, Cover, Rooms, Loads, Run, Serve, Route, Bookings, Waiting, Pickup, History, Avs, Reconcile, Compare, Carry, Changes, Audit, Seal, Recover, Replies, Told, Why, Explain, Season}
 
 -- a command that clap found in the words, and what it found of the command's values

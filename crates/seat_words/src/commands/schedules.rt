@@ -97,7 +97,7 @@ pub(super) fn compare_command<'a>(alloc: Global) -> Result<Command<'a>, AllocErr
         alloc,
         "compare",
         "Writes what another season changes: flights added and gone, and other legs and limits",
-        "With JOURNAL each line has the seats that are held and that wait on the flight.\n\nExample: seatdesk compare --from examples/summer.toml --to winter.toml examples/journal.txt",
+        "With JOURNAL each line has the seats that are held and that wait on the flight.\n\nExample: seatdesk compare --from examples/summer.toml --to examples/august.toml examples/journal.txt",
     );
     with_arguments(alloc, Ok(compare), COMPARE)
 }
