@@ -27,9 +27,9 @@ use Rattle.seat_questions.specs.declared.rooms.CityPair.{CityPair}
 abbrev pub place_of : ℕ → ℕ → ℕ → Place
 place_of i from to = record { flight = i; from = from; to = to }
 
--- a run of legs as one leg: the board point and the day of the first, the off point of the last
+-- a run of legs as one leg: the board point, the day and the time of the first, the off point of the last
 abbrev pub run_of : DatedLeg → DatedLeg → DatedLeg
-run_of first last = record { board = first.board; off = last.off; day = first.day }
+run_of first last = record { board = first.board; off = last.off; day = first.day; time = first.time }
 
 -- each day is kept, or the one that is asked for
 abbrev pub keeps_day : Option ℕ → ℕ → Bool

@@ -210,6 +210,7 @@ pub fn run_of(first: &DatedLeg, last: &DatedLeg) -> DatedLeg
         board: first.board,
         off: last.off,
         day: first.day,
+        time: first.time,
     }
 }
 

@@ -1,6 +1,6 @@
 -- The dated flights of a chain of legs.
-use Rattle.std.specs.Prelude.{ℕ, ◌+◌, ◌-◌, ◌<◌, ◌==◌, nat_lt, nat_le, Bool, true, false, ◌&&◌, is_none, if◌then◌else◌, List, [], ◌∷◌, Option, Some, None, map, filter, length, All, min, slice_index, unwrap_or, ℤ, pos, ◌+ℤ◌}
-use Rattle.std.specs.Int.{int_div_euclid}
+use Rattle.std.specs.Prelude.{ℕ, ◌+◌, ◌-◌, ◌<◌, ◌==◌, nat_lt, nat_le, Bool, true, false, ◌&&◌, is_none, if◌then◌else◌, List, [], ◌∷◌, Option, Some, None, map, filter, length, All, min, slice_index, unwrap_or, unsigned_abs, ℤ, pos, ◌+ℤ◌}
+use Rattle.std.specs.Int.{int_div_euclid, int_rem_euclid}
 use Rattle.std.specs.Option.{option_or}
 use Rattle.std.specs.List.{list_any, range_with_len}
 use Rattle.ssim_records.specs.declared.carrier.Carrier.{Carrier}
@@ -32,10 +32,18 @@ abbrev pub days_after : Bool → Leg → ℤ
 days_after true leg = leg.shift
 days_after false leg = leg.shift +ℤ int_div_euclid (pos leg.std +ℤ leg.offset) (pos 1440)
 
--- a leg with its operations, in order
+-- the local time of departure, in minutes of the day: the record's own, and in UTC with the UTC/local variation
+abbrev pub local_time : Bool → Leg → ℕ
+local_time true leg = leg.std
+local_time false leg = unsigned_abs (int_rem_euclid (pos leg.std +ℤ leg.offset) (pos 1440))
+
+-- a leg with its operations, in order, and its local time of departure
 unfoldable pub scheduled : Plan → Leg → Scheduled
-scheduled plan leg =
-    record { leg = leg; operations = map (operation (days_after plan.local leg)) (operating_days leg plan.end) }
+scheduled plan leg = record {
+  leg = leg;
+  operations = map (operation (days_after plan.local leg)) (operating_days leg plan.end);
+  time = local_time plan.local leg;
+}
 
 abbrev pub schedule : Plan → List Leg → List Scheduled
 schedule plan legs = map (scheduled plan) legs
@@ -68,7 +76,7 @@ Reaches legs i = All (λ leg. i < length leg.operations) legs
 -- ---- flights
 
 abbrev pub dated_leg : ℕ → Scheduled → DatedLeg
-dated_leg i leg = record { board = leg.leg.board; off = leg.leg.off; day = local_at leg i }
+dated_leg i leg = record { board = leg.leg.board; off = leg.leg.off; day = local_at leg i; time = leg.time }
 
 abbrev pub flight_on : Plan → Leg → List Scheduled → ℕ → Flight
 flight_on plan leg legs i = record {

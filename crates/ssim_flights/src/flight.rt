@@ -8,6 +8,8 @@ pub struct DatedLeg {
     pub off: Station,
     /// The local day of departure at the board point.
     pub day: Day,
+    /// The aircraft's scheduled local time of departure there, in minutes of the day, 0 to 1440.
+    pub time: u16,
 }
 
 /// The legs of a flight, in order.

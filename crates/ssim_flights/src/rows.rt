@@ -101,6 +101,7 @@ pub(crate) fn flight_on(
             board: leg.leg.board,
             off: leg.leg.off,
             day: leg.local(i),
+            time: leg.time,
         })?;
     }
     Ok(Flight {

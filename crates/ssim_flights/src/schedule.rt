@@ -3,7 +3,7 @@ ghost use Rattle.std.specs.Prelude.{◌≡◌, ◌≤◌, ◌<◌, All, IfOk, le
 ghost use Rattle.ssim_flights.specs.Operating.{operation};
 ghost use Rattle.ssim_flights.specs.Right.{IsRightLeg};
 ghost use Rattle.ssim_flights.specs.Rounds.{AreBefore};
-ghost use Rattle.ssim_flights.specs.Schedules.{day_at, days_after, local_at, schedule, scheduled, shortest};
+ghost use Rattle.ssim_flights.specs.Schedules.{day_at, days_after, local_at, local_time, schedule, scheduled, shortest};
 
 use crate::plan::Plan;
 use crate::rounds::Rounds;
@@ -36,6 +36,8 @@ impl Model for Operations {
 pub(crate) struct Scheduled {
     pub leg: Leg,
     pub operations: Operations,
+    /// The local time of departure, in minutes of the day, 0 to 1440.
+    pub time: u16,
 }
 
 impl Operations {
@@ -133,10 +135,12 @@ fn schedule_leg(alloc: Global, plan: &Plan, leg: &Leg) -> Result<Scheduled, Memo
     let days = Rounds::of(alloc, leg, plan.end)?;
     let after = days_after(plan.local, leg);
     let operations = Operations::of(days, after);
+    let time = local_time(plan.local, leg);
     let _board: Station = leg.board;
     Ok(Scheduled {
         leg: *leg,
         operations,
+        time,
     })
 }
 
@@ -165,4 +169,16 @@ fn days_after(local: bool, leg: &Leg) -> i32
     }
     let minutes = i32::from(leg.std) + i32::from(leg.offset);
     shift + minutes.div_euclid(1440)
+}
+
+/// The local time of departure, in minutes of the day.
+fn local_time(local: bool, leg: &Leg) -> u16
+    requires { IsRightLeg leg.now }
+    ensures { result ≡ local_time local leg.now }
+{
+    if local {
+        return leg.std;
+    }
+    let minutes = i32::from(leg.std) + i32::from(leg.offset);
+    minutes.rem_euclid(1440) as u16
 }
