@@ -14,7 +14,7 @@ use Rattle.carry_order.specs.declared.numbering.Numbered.{Numbered}
 use Rattle.seat_moving.specs.Moving.{name_of, target}
 use Rattle.seat_moving.specs.declared.target.Target.{Target}
 use Rattle.seat_moving.specs.declared.target.Target.TheVariants as targets
-use Rattle.season_changes.specs.Differing.{same_legs as same}
+use Rattle.season_changes.specs.Differing.{same_legs, times_differ}
 use Rattle.carry_reports.specs.declared.fating.Asked.{Asked as AskedFor}
 use Rattle.carry_reports.specs.declared.fating.Carried.{Carried}
 use Rattle.carry_reports.specs.declared.fating.Fate.{Fate}
@@ -37,8 +37,12 @@ legs_between from end legs = (if nat_le end from || nat_lt (length legs) end the
 abbrev pub legs_at : List Flown → Place → List DatedLeg
 legs_at flights p = legs_between p.from (p.to + 1) (legs_by (slice_get flights p.flight))
 
+-- other legs, or a leg that departs at another time
+abbrev pub are_other_legs : List DatedLeg → List DatedLeg → Bool
+are_other_legs legs others = not (same_legs legs others) || times_differ legs others
+
 abbrev pub has_changed : Carried → Place → Place → Bool
-has_changed c old new = not (same (legs_at c.olds.now old) (legs_at c.news.now new))
+has_changed c old new = are_other_legs (legs_at c.olds.now old) (legs_at c.news.now new)
 
 -- ---- names
 

@@ -3,11 +3,12 @@
 ghost use Rattle.std.specs.Prelude.{◌≡◌, ◌++◌, ◌∷◌, [], IfOk, OnOk, slice_get};
 ghost use Rattle.seat_rules.specs.Flights.{bookings_on};
 ghost use Rattle.seat_rules.specs.Inventory.{state_now};
-ghost use Rattle.season_changes.specs.Differing.{same_leg, same_legs};
+ghost use Rattle.season_changes.specs.Differing.{same_legs, times_differ};
 ghost use Rattle.carry_reports.specs.Fates.{asked_fate, fate_by, fates, has_changed, is_elsewhere, is_other_name, legs_at, next_of, outcome_in, outcome_of, unasked_fate};
 
 use airline_base::{Class, Day, Memory, Place};
 use carry_order::Numbered;
+use season_changes::{same_legs, times_differ};
 use seat_core::Core;
 use seat_moving::{Target, name_of, target_of};
 use seat_rules::{Booking, Status};
@@ -51,8 +52,8 @@ pub struct Asked {
     pub class: Class,
     /// Whether passengers call that place otherwise than its old one: it went there by a row, from a flight or a day to another.
     pub elsewhere: bool,
-    /// Whether that is so, or its class is another, or the legs of that place are others than those of its old one: their stations, their order or their
-    /// local days.
+    /// Whether that is so, or its class is another, or the legs of that place are others than those of its old one: their stations, their order, their
+    /// local days or the local times at which they depart.
     pub changed: bool,
     pub outcome: Outcome,
 }
@@ -215,11 +216,12 @@ fn is_other_name(old: Option<Wanted>, new: Option<Wanted>) -> bool
     }
 }
 
-/// Whether a place of the new flights has other legs than one of the old ones.
+/// Whether a place of the new flights has other legs than one of the old ones, or one of its legs departs at another time.
 fn has_changed(carried: &Carried<'_>, old: Place, new: Place) -> bool
     ensures { result ≡ has_changed carried.now old new }
 {
-    !same_legs(legs_at(carried.olds, old), legs_at(carried.news, new))
+    let (legs, others) = (legs_at(carried.olds, old), legs_at(carried.news, new));
+    !same_legs(legs, others) || times_differ(legs, others)
 }
 
 /// The legs of a place; none where the flights have no such place.
@@ -235,23 +237,4 @@ fn legs_at(flights: &Flights, place: Place) -> &[DatedLeg]
         return &[];
     }
     &legs[from..end]
-}
-
-/// Whether there are as many legs, and each is the other at its place.
-fn same_legs(legs: &[DatedLeg], others: &[DatedLeg]) -> bool
-    ensures { result ≡ same_legs legs.now others.now }
-{
-    match legs {
-        [] => others.is_empty(),
-        [leg, rest @ ..] => match others {
-            [] => false,
-            [other, more @ ..] => same_leg(leg, other) && same_legs(rest, more),
-        },
-    }
-}
-
-fn same_leg(leg: &DatedLeg, other: &DatedLeg) -> bool
-    ensures { result ≡ same_leg leg.now other.now }
-{
-    leg.board == other.board && leg.off == other.off && leg.day == other.day
 }

@@ -4,7 +4,7 @@ use Rattle.std.proofs.lemmas.List.{append-nil}
 use Rattle.airline_base.specs.Days.{IsDateText}
 use Rattle.seat_desk.specs.FlightsDesk.{IsPut}
 use Rattle.seat_desk.proofs.Texts.{put_more}
-use Rattle.season_changes.specs.Lines.{designator_text, is_outside, seats_text, what_text, IsChangeLine, IsChangePart, IsPartBy, IsPutBehind}
+use Rattle.season_changes.specs.Lines.{changed_text, designator_text, is_outside, seats_text, what_text, word_if, IsChangeLine, IsChangePart, IsPartBy, IsPutBehind}
 use Rattle.season_changes.specs.declared.changes.Change.{Change}
 
 pub no_line : (has_journal : Bool) (change : Change) (text : List ℕ) → is_outside change.what ≡ true
@@ -22,6 +22,17 @@ line_of has_journal change old new e put = record {
   is_part = subst (λ (b : Bool). IsPartBy b has_journal change put.part) (sym e) put.is_part;
   written = put.written;
 }
+
+three : (o a b c : List ℕ) → ((o ++ a) ++ b) ++ c ≡ o ++ (a ++ b ++ c)
+three o a b c = simp append_assoc
+
+pub changed_put : (legs times limits : Bool) (old t1 t2 new : List ℕ) → t1 ≡ old ++ word_if legs (codes "LEGS ")
+    → t2 ≡ t1 ++ word_if times (codes "TIMES ") → new ≡ t2 ++ word_if limits (codes "LIMITS ") → new ≡ old ++ changed_text legs times limits
+unfolding changed_text
+changed_put legs times limits old t1 t2 new a b c =
+    c
+    ∙ ap (λ (l : List ℕ). l ++ word_if limits (codes "LIMITS ")) (b ∙ ap (λ (l : List ℕ). l ++ word_if times (codes "TIMES ")) a)
+    ∙ three old (word_if legs (codes "LEGS ")) (word_if times (codes "TIMES ")) (word_if limits (codes "LIMITS "))
 
 six : (a b c d e f g : List ℕ) → (((((a ++ b) ++ c) ++ d) ++ e) ++ f) ++ g ≡ a ++ (b ++ c ++ d ++ e ++ f ++ g)
 six a b c d e f g = simp append_assoc

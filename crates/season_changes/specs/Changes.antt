@@ -5,7 +5,7 @@ use Rattle.ssim_flights.specs.declared.flight.Flight.{Flight as Flown}
 use Rattle.seat_nesting.specs.Nesting.{Ladders}
 use Rattle.seat_rules.specs.Bookings.{is_held, is_waiting}
 use Rattle.seat_rules.specs.declared.booking.Booking.{Booking}
-use Rattle.season_changes.specs.Differing.{differing, ladders_differ, legs_at, same_legs}
+use Rattle.season_changes.specs.Differing.{differing, ladders_differ, legs_at, same_legs, times_differ}
 use Rattle.season_changes.specs.Naming.{name_on, number_from}
 use Rattle.season_changes.specs.Seats.{seats_on}
 use Rattle.season_changes.specs.declared.changes.Change.{Change}
@@ -30,7 +30,8 @@ change_of name held waiting (Some what) =
 abbrev pub what_becomes : Comparison → Ladders → ℕ → Flown → Option ℕ → Option What
 what_becomes asked grid i flight None = Some Gone
 what_becomes asked grid i flight (Some k) =
-    differing (not (same_legs flight.legs (legs_at asked.flights.now k))) (ladders_differ grid i asked.grid.now k 0 flight.legs)
+    differing (not (same_legs flight.legs (legs_at asked.flights.now k))) (times_differ flight.legs (legs_at asked.flights.now k))
+    (ladders_differ grid i asked.grid.now k 0 flight.legs)
 
 -- of one of this name
 unfoldable pub of_compared : Comparison → Ladders → List Booking → ℕ → Flown → Name → List Change

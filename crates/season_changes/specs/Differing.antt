@@ -21,6 +21,12 @@ same_legs [] (b ∷ others) = false
 same_legs (a ∷ legs) [] = false
 same_legs (a ∷ legs) (b ∷ others) = same_leg a b && same_legs legs others
 
+-- one of the legs departs at another local time of day than the one at its place
+abbrev pub times_differ : List DatedLeg → List DatedLeg → Bool
+times_differ [] others = false
+times_differ (a ∷ legs) [] = false
+times_differ (a ∷ legs) (b ∷ others) = not (a.time == b.time) || times_differ legs others
+
 -- the legs of a flight; none where it is not there
 abbrev pub legs_by : Option Flown → List DatedLeg
 legs_by None = []
@@ -54,6 +60,6 @@ ladders_differ old i new k j (leg ∷ legs) =
 
 -- ---- what becomes of the flight
 
--- nothing, where neither the legs nor the limits differ
-abbrev pub differing : Bool → Bool → Option What
-differing legs limits = (if legs || limits then Some (Changed legs limits) else None)
+-- nothing, where neither the legs nor their times nor the limits differ
+abbrev pub differing : Bool → Bool → Bool → Option What
+differing legs times limits = (if legs || (times || limits) then Some (Changed legs times limits) else None)

@@ -16,12 +16,17 @@ pub record IsPutBehind (IsPart : List ℕ → Type 0) (old new : List ℕ) : Typ
 abbrev pub word_if : Bool → List ℕ → List ℕ
 word_if holds word = (if holds then word else [])
 
--- GONE, ADDED, or the words for what differs, each with a blank behind it
+-- the words for what differs, each with a blank behind it
+unfoldable pub changed_text : Bool → Bool → Bool → List ℕ
+changed_text legs times limits =
+    word_if legs (codes "LEGS ") ++ word_if times (codes "TIMES ") ++ word_if limits (codes "LIMITS ")
+
+-- GONE, ADDED, or what differs
 abbrev pub what_text : What → List ℕ
 what_text Gone = codes "GONE "
 what_text Added = codes "ADDED "
 what_text Outside = []
-what_text (Changed legs limits) = word_if legs (codes "LEGS ") ++ word_if limits (codes "LIMITS ")
+what_text (Changed legs times limits) = changed_text legs times limits
 
 -- the airline, the number without leading zeros, and the suffix
 abbrev pub designator_text : Name → List ℕ
@@ -31,13 +36,13 @@ abbrev pub is_added : What → Bool
 is_added Gone = false
 is_added Added = true
 is_added Outside = false
-is_added (Changed legs limits) = false
+is_added (Changed legs times limits) = false
 
 abbrev pub is_outside : What → Bool
 is_outside Gone = false
 is_outside Added = false
 is_outside Outside = true
-is_outside (Changed legs limits) = false
+is_outside (Changed legs times limits) = false
 
 -- the seats on the flight of the old season, where there is a journal
 unfoldable pub seats_text : Bool → Change → List ℕ

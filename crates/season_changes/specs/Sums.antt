@@ -20,16 +20,17 @@ abbrev pub counts_outside : Counted → Bool
 counts_outside counts.Outside = true
 counts_outside _ = false
 
-abbrev pub counts_differing : Counted → Bool → Bool → Bool
-counts_differing counts.Legs legs limits = legs
-counts_differing counts.Limits legs limits = limits
-counts_differing _ legs limits = false
+abbrev pub counts_differing : Counted → Bool → Bool → Bool → Bool
+counts_differing counts.Legs legs times limits = legs
+counts_differing counts.Times legs times limits = times
+counts_differing counts.Limits legs times limits = limits
+counts_differing _ legs times limits = false
 
 abbrev pub is_counted : Counted → What → Bool
 is_counted counted Gone = counts_gone counted
 is_counted counted Added = counts_added counted
 is_counted counted Outside = counts_outside counted
-is_counted counted (Changed legs limits) = counts_differing counted legs limits
+is_counted counted (Changed legs times limits) = counts_differing counted legs times limits
 
 abbrev pub is_change_counted : Counted → Change → Bool
 is_change_counted counted change = is_counted counted change.what
@@ -50,9 +51,9 @@ seats_text has_journal all =
     then codes " held " ++ decimal (sum_by held_beside all) ++ codes " waiting " ++ decimal (sum_by waiting_beside all)
     else [])
 
--- SUMS gone N added N legs N limits N outside N, and the seats
+-- SUMS gone N added N legs N times N limits N outside N, and the seats
 abbrev pub sums_text : Bool → List Change → List ℕ
 sums_text has_journal all =
     codes "SUMS gone " ++ count_text counts.Gone all ++ codes " added " ++ count_text counts.Added all
-    ++ codes " legs " ++ count_text counts.Legs all ++ codes " limits " ++ count_text counts.Limits all
-    ++ codes " outside " ++ count_text counts.Outside all ++ seats_text has_journal all ++ 10 ∷ []
+    ++ codes " legs " ++ count_text counts.Legs all ++ codes " times " ++ count_text counts.Times all
+    ++ codes " limits " ++ count_text counts.Limits all ++ codes " outside " ++ count_text counts.Outside all ++ seats_text has_journal all ++ 10 ∷ []

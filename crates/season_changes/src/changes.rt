@@ -7,7 +7,7 @@ ghost use Rattle.season_changes.specs.Changes.{change_of, changes_of, each_from,
 ghost use Rattle.season_changes.specs.Naming.{AreNumbersOf};
 
 use crate::comparing::Comparison;
-use crate::differing::{What, differing, ladders_differ, legs_at, same_legs};
+use crate::differing::{What, differing, ladders_differ, legs_at, same_legs, times_differ};
 use crate::naming::{Name, name_on, number_of, numbers_of};
 use crate::seats::{held_on, waiting_on};
 use airline_base::{Airline, Day, Memory};
@@ -149,8 +149,10 @@ fn what_becomes(
         return Some(What::Gone);
     };
     let legs = flight.legs.as_slice();
+    let others = legs_at(asked.flights, k);
     differing(
-        !same_legs(legs, legs_at(asked.flights, k)),
+        !same_legs(legs, others),
+        times_differ(legs, others),
         ladders_differ(grid, i, asked.grid, k, 0, legs),
     )
 }

@@ -1,7 +1,7 @@
 //! In what a flight of an old season and the one of its name in a new season differ.
 //! It knows neither who is on them nor which days both seasons have.
 ghost use Rattle.std.specs.Prelude.{◌≡◌, ◌≤◌, ◌+◌, length};
-ghost use Rattle.season_changes.specs.Differing.{differing, ladders_differ, legs_at, same_ladder, same_leg, same_legs, same_step};
+ghost use Rattle.season_changes.specs.Differing.{differing, ladders_differ, legs_at, same_ladder, same_leg, same_legs, same_step, times_differ};
 
 use seat_nesting::{Grid, Step};
 use ssim_flights::{DatedLeg, Flights};
@@ -19,17 +19,23 @@ pub enum What {
     Changed {
         /// The stations of its legs, their order, or the local days on which they depart.
         legs: bool,
+        /// The local time of day at which a leg departs.
+        times: bool,
         /// The ladder of a leg.
         limits: bool,
     },
 }
 
 /// What becomes of a flight that both seasons have, if anything differs.
-pub(crate) fn differing(legs: bool, limits: bool) -> Option<What>
-    ensures { result ≡ differing legs limits }
+pub(crate) fn differing(legs: bool, times: bool, limits: bool) -> Option<What>
+    ensures { result ≡ differing legs times limits }
 {
-    if legs || limits {
-        Some(What::Changed { legs, limits })
+    if legs || times || limits {
+        Some(What::Changed {
+            legs,
+            times,
+            limits,
+        })
     } else {
         None
     }
@@ -46,8 +52,8 @@ pub(crate) fn legs_at(flights: &Flights, k: u32) -> &[DatedLeg]
     }
 }
 
-/// Whether there are as many legs, and each is the other at its place.
-pub(crate) fn same_legs(legs: &[DatedLeg], others: &[DatedLeg]) -> bool
+/// Whether there are as many legs, and each is between the stations and on the local day of the other at its place.
+pub fn same_legs(legs: &[DatedLeg], others: &[DatedLeg]) -> bool
     ensures { result ≡ same_legs legs.now others.now }
 {
     match legs {
@@ -63,6 +69,19 @@ fn same_leg(leg: &DatedLeg, other: &DatedLeg) -> bool
     ensures { result ≡ same_leg leg.now other.now }
 {
     leg.board == other.board && leg.off == other.off && leg.day == other.day
+}
+
+/// Whether a leg departs at another local time of day than the one at its place. Nothing is said of a leg that has none at its place.
+pub fn times_differ(legs: &[DatedLeg], others: &[DatedLeg]) -> bool
+    ensures { result ≡ times_differ legs.now others.now }
+{
+    match legs {
+        [] => false,
+        [leg, rest @ ..] => match others {
+            [] => false,
+            [other, more @ ..] => leg.time != other.time || times_differ(rest, more),
+        },
+    }
 }
 
 /// Whether a leg of flight `i` of the old grid, from leg `j` on, has another ladder than the leg at its place of flight `k` of the new one.

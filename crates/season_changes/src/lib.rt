@@ -14,7 +14,7 @@ mod sums;
 
 pub use changes::{Change, fates};
 pub use comparing::Comparison;
-pub use differing::What;
+pub use differing::{What, same_legs, times_differ};
 pub use fault::SeasonFault;
 pub use naming::Name;
 pub use seasons::desk_compare;

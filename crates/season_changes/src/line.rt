@@ -4,7 +4,7 @@ ghost use Rattle.std.specs.Prelude.{◌≡◌, ◌++◌, ℕ, List, OnOk};
 ghost use Rattle.airline_base.specs.Days.{IsDateText};
 ghost use Rattle.airline_base.specs.Fields.{suffix_text};
 ghost use Rattle.seat_desk.specs.FlightsDesk.{IsPut};
-ghost use Rattle.season_changes.specs.Lines.{IsChangeLine, IsChangePart, IsPutBehind, designator_text, is_added, is_outside, seats_text, what_text, word_if};
+ghost use Rattle.season_changes.specs.Lines.{IsChangeLine, IsChangePart, IsPutBehind, changed_text, designator_text, is_added, is_outside, seats_text, what_text, word_if};
 
 use crate::changes::Change;
 use crate::differing::What;
@@ -66,12 +66,23 @@ fn put_what(text: &mut Vec<u8>, what: What) -> Result<(), AllocError>
         What::Gone => put(text, b"GONE "),
         What::Added => put(text, b"ADDED "),
         What::Outside => Ok(()),
-        What::Changed { legs, limits } => {
-            put_if(text, legs, b"LEGS ")?;
-            put_if(text, limits, b"LIMITS ")?;
-            Ok(())
-        }
+        What::Changed {
+            legs,
+            times,
+            limits,
+        } => put_changed(text, legs, times, limits),
     }
+}
+
+/// Adds the words for what differs, each with a blank behind it.
+#[tactic(auto, using(crate::proofs::Lines::changed_put))]
+fn put_changed(text: &mut Vec<u8>, legs: bool, times: bool, limits: bool) -> Result<(), AllocError>
+    ensures { OnOk result (text.new.items ≡ text.old.items ++ changed_text legs times limits) }
+{
+    put_if(text, legs, b"LEGS ")?;
+    put_if(text, times, b"TIMES ")?;
+    put_if(text, limits, b"LIMITS ")?;
+    Ok(())
 }
 
 fn put_if(text: &mut Vec<u8>, holds: bool, word: &[u8]) -> Result<(), AllocError>

@@ -16,6 +16,7 @@ pub(crate) enum Counted {
     Gone,
     Added,
     Legs,
+    Times,
     Limits,
     Outside,
 }
@@ -32,6 +33,7 @@ pub(crate) fn put_sums(
     put_count(text, b"SUMS gone ", all, Counted::Gone)?;
     put_count(text, b" added ", all, Counted::Added)?;
     put_count(text, b" legs ", all, Counted::Legs)?;
+    put_count(text, b" times ", all, Counted::Times)?;
     put_count(text, b" limits ", all, Counted::Limits)?;
     put_count(text, b" outside ", all, Counted::Outside)?;
     put_seats(text, has_journal, all)?;
@@ -73,8 +75,13 @@ fn is_counted(counted: Counted, what: What) -> bool
         What::Gone => matches!(counted, Counted::Gone),
         What::Added => matches!(counted, Counted::Added),
         What::Outside => matches!(counted, Counted::Outside),
-        What::Changed { legs, limits } => match counted {
+        What::Changed {
+            legs,
+            times,
+            limits,
+        } => match counted {
             Counted::Legs => legs,
+            Counted::Times => times,
             Counted::Limits => limits,
             Counted::Gone | Counted::Added | Counted::Outside => false,
         },
