@@ -48,9 +48,6 @@ module _ (asked : CarryAsked) (olds : List Flown) (before : Inventory) (news : L
       ap (λ (l : List Flown). courses_in l news asked.protections.now) (sym o)
       ∙ ap (λ (l : List Flown). courses_in old l asked.protections.now) (sym n) ∙ right
 
-  pub same_rows : (all slice : List Course) → AreCourses asked olds news all → slice ≡ all → AreCourses asked olds news slice
-  same_rows all slice are same = subst (AreCourses asked olds news) (sym same) are
-
   pub unsold_of : (f : CarryFault) (courses : List Course) (live slice : List Booking) (kept : List Owned) (lists : Lists) (journal : List Entry)
       (new : List Flown) (line : ℕ) → AreParts asked courses olds before news file live kept lists → AreCourses asked olds news courses → new ≡ news
       → slice ≡ live → journal ≡ before.journal → Some line ≡ lacking courses journal olds new asked.today file slice
@@ -75,12 +72,23 @@ module _ (asked : CarryAsked) (olds : List Flown) (before : Inventory) (news : L
       (subst (λ (j : List Entry). lacking courses j olds new asked.today file live ≡ None) is_journal
       (subst (λ (l : List Booking). lacking courses journal olds new asked.today file l ≡ None) is_slice (sym none)))
 
-  pub twice_of : (f : CarryFault) (courses : List Course) (live : List Booking) (kept : List Owned) (lists : Lists) (line : ℕ)
-      → AreParts asked courses olds before news file live kept lists → AreCourses asked olds news courses → Some line ≡ first_twice lists courses
-      → f ≡ Row (record { line = line; kind = kinds.Twice }) → IsUnplanned asked olds before news file f
-  twice_of f courses live kept lists line parts are first same =
+  pub twice_of : (f : CarryFault) (courses slice : List Course) (live : List Booking) (kept : List Owned) (lists : Lists) (line : ℕ)
+      → AreParts asked courses olds before news file live kept lists → AreCourses asked olds news courses → slice ≡ courses
+      → Some line ≡ first_twice lists slice → f ≡ Row (record { line = line; kind = kinds.Twice }) → IsUnplanned asked olds before news file f
+  twice_of f courses slice live kept lists line parts are is_slice first same =
       subst (IsUnplanned asked olds before news file) (sym same)
-      (record { courses = courses; live = live; kept = kept; lists = lists; are_courses = are; parts = parts; first = sym first })
+      (record {
+        courses = courses;
+        live = live;
+        kept = kept;
+        lists = lists;
+        are_courses = are;
+        parts = parts;
+        first = subst (λ (l : List Course). first_twice lists l ≡ Some line) is_slice (sym first);
+      })
+
+  pub once_of : (courses slice : List Course) (lists : Lists) → slice ≡ courses → None ≡ first_twice lists slice → first_twice lists courses ≡ None
+  once_of courses slice lists is_slice none = subst (λ (l : List Course). first_twice lists l ≡ None) is_slice (sym none)
 
   pub followed_of : (courses : List Course) (live : List Booking) (lists : Lists) → AreCourses asked olds news courses
       → IsSold courses before olds news asked file live → first_twice lists courses ≡ None

@@ -13,7 +13,7 @@ use crate::asked::CarryAsked;
 use airline_base::{Locator, Memory};
 use carry_lines::carriable;
 use carry_order::ordered;
-use carry_protections::{Course, moved_under};
+use carry_protections::{Courses, moved_under};
 use seat_carrying::Owned;
 use seat_core::Core;
 use seat_lists::{Wanted, picked};
@@ -35,7 +35,7 @@ pub(crate) struct Chosen {
 pub(crate) fn choose(
     alloc: Global,
     asked: &CarryAsked<'_>,
-    courses: &[Course],
+    courses: &Courses,
     before: &Core,
     olds: &Flights,
     old: &Served<'_>,

@@ -24,7 +24,7 @@ use carry_limits::{ByFlight, Over, Seasons, by_flight, changes_for, overs, put_o
 use carry_lines::{Mark, carried};
 use carry_marks::marks_of;
 use carry_order::{Numbered, by_number};
-use carry_protections::Course;
+use carry_protections::Courses;
 use carry_reports::{Carried, fates};
 use carry_tables::report_as;
 use seat_carrying::Owned;
@@ -54,7 +54,7 @@ pub(crate) struct Parts {
 }
 
 /// The new inventory of the live bookings, over the file's limits of the new flights, and the report; or why there is none.
-#[tactic(auto, using(crate::proofs::Parts::of_memory, crate::proofs::Protections::same_rows))]
+#[tactic(auto, using(crate::proofs::Parts::of_memory))]
 pub(crate) fn plan(
     alloc: Global,
     asked: &CarryAsked<'_>,
@@ -82,7 +82,7 @@ pub(crate) fn plan(
         Ok(courses) => courses,
         Err(fault) => return Err(fault),
     };
-    let rows = courses.as_slice();
+    let rows = &courses;
     let parts = match passed(alloc, asked, rows, olds, &old, before, news, &new, file) {
         Ok(parts) => parts,
         Err(fault) => return Err(fault),
@@ -100,7 +100,7 @@ pub(crate) fn plan(
 fn parted(
     alloc: Global,
     asked: &CarryAsked<'_>,
-    courses: &[Course],
+    courses: &Courses,
     olds: &Flights,
     old: &Served<'_>,
     before: &Core,
@@ -130,7 +130,7 @@ fn parted(
 fn passed(
     alloc: Global,
     asked: &CarryAsked<'_>,
-    courses: &[Course],
+    courses: &Courses,
     olds: &Flights,
     old: &Served<'_>,
     before: &Core,
@@ -170,7 +170,7 @@ fn passed(
 fn plan_of(
     alloc: Global,
     asked: &CarryAsked<'_>,
-    courses: &[Course],
+    courses: &Courses,
     olds: &Flights,
     old: &Served<'_>,
     before: &Core,

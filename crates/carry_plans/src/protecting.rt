@@ -9,7 +9,9 @@ use crate::asked::CarryAsked;
 use crate::fault::CarryFault;
 use crate::planning::Parts;
 use carry_limits::ByFlight;
-use carry_protections::{Course, CourseFault, CourseKind, has_twice, lacking, read_courses};
+use carry_protections::{
+    Course, CourseFault, CourseKind, Courses, has_twice, lacking, read_courses,
+};
 use seat_core::Core;
 use seat_nesting::Grid;
 use ssim_flights::{Flights, Served};
@@ -26,11 +28,11 @@ pub(crate) fn courses_of(
     news: &Flights,
     new: &Served<'_>,
     file: &Grid,
-) -> Result<Vec<Course>, CarryFault>
+) -> Result<Courses, CarryFault>
     requires size { length asked.now.protections.now < 2 ^ 32 }
     requires old { old.now ≡ olds.now }
     requires new { new.now ≡ news.now }
-    ensures found { IfOk result (λ all. AreCourses asked.now olds.now news.now all.items) }
+    ensures found { IfOk result (λ all. AreCourses asked.now olds.now news.now all) }
     ensures fault { IfErr result (IsUnplanned asked.now olds.now before.now news.now file.now) }
 {
     match read_courses(alloc, asked.protections, old, new) {
@@ -60,7 +62,7 @@ fn of_row(line: u32, kind: CourseKind) -> CarryFault
 #[tactic(auto, using(crate::proofs::Protections::unsold_of, crate::proofs::Protections::sold_of))]
 pub(crate) fn pass_unsold(
     asked: &CarryAsked<'_>,
-    courses: &[Course],
+    courses: &Courses,
     olds: &Flights,
     old: &Served<'_>,
     before: &Core,
@@ -93,10 +95,10 @@ pub(crate) fn pass_unsold(
 }
 
 /// Refuses a row by which a live booking goes where its locator has another one in that class.
-#[tactic(auto, using(crate::proofs::Protections::twice_of))]
+#[tactic(auto, using(crate::proofs::Protections::twice_of, crate::proofs::Protections::once_of))]
 pub(crate) fn pass_twice(
     asked: &CarryAsked<'_>,
-    courses: &[Course],
+    courses: &Courses,
     olds: &Flights,
     before: &Core,
     news: &Flights,
@@ -108,7 +110,8 @@ pub(crate) fn pass_twice(
     ensures once { OnOk result (first_twice parts.now.by courses.now ≡ None) }
     ensures fault { IfErr result (IsUnplanned asked.now olds.now before.now news.now file.now) }
 {
-    match first_twice(courses, &parts.by) {
+    let rows = courses.as_slice();
+    match first_twice(rows, &parts.by) {
         None => Ok(()),
         Some(line) => Err(of_row(line, CourseKind::Twice)),
     }

@@ -54,19 +54,14 @@ module _ (olds news : List Flown) (line : ℕ) (text : List ℕ) where
   pub blank_line : (b : Bool) (old new : List Course) → b ≡ is_blank text → b ≡ true → new ≡ old → with_line olds news line text old ≡ Ok new
   blank_line b old new e on same = rw (sym e ∙ on) (ap (λ (l : List Course). Ok l) (sym same))
 
-  pub right_line : (b : Bool) (old slice new : List Course) (course : Course) → b ≡ is_blank text → b ≡ false → slice ≡ old
-      → course_at olds news slice line text ≡ Ok course → new ≡ old ++ course ∷ [] → with_line olds news line text old ≡ Ok new
-  right_line b old slice new course e off same found added =
-      let here : course_at olds news old line text ≡ Ok course =
-      ap (λ (l : List Course). course_at olds news l line text) (sym same) ∙ found in
-      rw (sym e ∙ off) (ap (one_more old) here ∙ ap (λ (l : List Course). Ok l) (sym added))
+  pub right_line : (b : Bool) (old new : List Course) (course : Course) → b ≡ is_blank text → b ≡ false
+      → course_at olds news old line text ≡ Ok course → new ≡ old ++ course ∷ [] → with_line olds news line text old ≡ Ok new
+  right_line b old new course e off found added =
+      rw (sym e ∙ off) (ap (one_more old) found ∙ ap (λ (l : List Course). Ok l) (sym added))
 
-  pub wrong_line : (b : Bool) (old slice : List Course) (kind : CourseKind) → b ≡ is_blank text → b ≡ false → slice ≡ old
-      → course_at olds news slice line text ≡ Err kind → with_line olds news line text old ≡ Err kind
-  wrong_line b old slice kind e off same wrong =
-      let here : course_at olds news old line text ≡ Err kind =
-      ap (λ (l : List Course). course_at olds news l line text) (sym same) ∙ wrong in
-      rw (sym e ∙ off) (ap (one_more old) here)
+  pub wrong_line : (b : Bool) (old : List Course) (kind : CourseKind) → b ≡ is_blank text → b ≡ false
+      → course_at olds news old line text ≡ Err kind → with_line olds news line text old ≡ Err kind
+  wrong_line b old kind e off wrong = rw (sym e ∙ off) (ap (one_more old) wrong)
 
   -- ---- one row
 

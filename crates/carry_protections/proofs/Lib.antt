@@ -1,3 +1,4 @@
 pub mod Dates
 pub mod Following
+pub mod Numbering
 pub mod Pairs

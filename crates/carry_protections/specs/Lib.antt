@@ -1,3 +1,4 @@
+pub mod ByPlace
 pub mod Courses
 pub mod Going
 pub mod Refusing

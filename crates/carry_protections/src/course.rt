@@ -1,12 +1,13 @@
 //! Where the bookings of places go, by the rows of a text.
 //! It knows which places flights have; no booking.
-ghost use Rattle.std.specs.Prelude.{◌≡◌, ◌≢◌, ◌<◌, ◌^◌, ◌++◌, ◌∷◌, [], Err, IfErr, IfOk, Ok, OnOk, length};
+ghost use Rattle.std.specs.Prelude.{◌≡◌, ◌≢◌, ◌<◌, ◌^◌, Err, IfErr, IfOk, Ok, OnOk, false, length};
 ghost use Rattle.carry_protections.specs.Courses.{IsOwn, course_at, courses_in, has_course, is_blank, places_by, with_line};
 ghost use Rattle.carry_protections.specs.declared.course.CourseKind.TheVariants.{Memory as Wanting};
 
+use crate::by_place::Courses;
 use crate::row::{ClassPair, Heading, classes_of, heading_of};
 use airline_base::lines::cut_line;
-use airline_base::{Items, Memory, Place};
+use airline_base::{Items, Place};
 use ssim_flights::Served;
 use std::alloc::Global;
 
@@ -57,13 +58,13 @@ pub fn read_courses(
     bytes: &[u8],
     old: &Served<'_>,
     new: &Served<'_>,
-) -> Result<Vec<Course>, CourseFault>
+) -> Result<Courses, CourseFault>
     requires size { length bytes.now < 2 ^ 32 }
-    ensures found { IfOk result (λ all. courses_in old.now new.now bytes.now ≡ Ok all.items) }
+    ensures found { IfOk result (λ all. courses_in old.now new.now bytes.now ≡ Ok all) }
     ensures fault { IfErr result (λ f. f.kind ≢ Wanting → courses_in old.now new.now bytes.now ≡ Err f) }
     ensures own { IfErr result (λ f. IsOwn f.kind) }
 {
-    let mut all = Vec::new(alloc);
+    let mut all = Courses::new(alloc);
     let mut rest = bytes;
     let mut line = 0;
     while !rest.is_empty() {
@@ -81,24 +82,24 @@ pub fn read_courses(
 #[tactic(auto, using(crate::proofs::Following::blank_line, crate::proofs::Following::right_line, crate::proofs::Following::wrong_line))]
 fn take_line(
     alloc: Global,
-    all: &mut Vec<Course>,
+    all: &mut Courses,
     old: &Served<'_>,
     new: &Served<'_>,
     text: &[u8],
     line: u32,
 ) -> Result<(), CourseKind>
-    ensures taken { OnOk result (with_line old.now new.now line text.now all.old.items ≡ Ok all.new.items) }
-    ensures fault { IfErr result (λ kind. kind ≢ Wanting → with_line old.now new.now line text.now all.old.items ≡ Err kind) }
+    ensures taken { OnOk result (with_line old.now new.now line text.now all.old ≡ Ok all.new) }
+    ensures fault { IfErr result (λ kind. kind ≢ Wanting → with_line old.now new.now line text.now all.old ≡ Err kind) }
     ensures own { IfErr result IsOwn }
 {
     if is_blank(text) {
         return Ok(());
     }
-    let course = match course_of(alloc, all.as_slice(), old, new, text, line) {
+    let course = match course_of(alloc, all, old, new, text, line) {
         Ok(course) => course,
         Err(kind) => return Err(kind),
     };
-    match push(all, course) {
+    match all.push(course) {
         Ok(()) => Ok(()),
         Err(_) => Err(CourseKind::Memory),
     }
@@ -108,13 +109,14 @@ fn take_line(
 #[tactic(auto, using(crate::proofs::Following::no_heading, crate::proofs::Following::no_classes, crate::proofs::Following::no_places, crate::proofs::Following::own_classes, crate::proofs::Following::a_course))]
 fn course_of(
     alloc: Global,
-    ahead: &[Course],
+    ahead: &Courses,
     old: &Served<'_>,
     new: &Served<'_>,
     text: &[u8],
     line: u32,
 ) -> Result<Course, CourseKind>
     ensures ok { IfOk result (λ c. course_at old.now new.now ahead.now line text.now ≡ Ok c) }
+    ensures first { IfOk result (λ c. has_course ahead.now c.from ≡ false) }
     ensures fault { IfErr result (λ kind. kind ≢ Wanting → course_at old.now new.now ahead.now line text.now ≡ Err kind) }
     ensures own { IfErr result IsOwn }
 {
@@ -138,18 +140,19 @@ fn course_of(
 
 /// The two places of a row behind these.
 fn places_of(
-    ahead: &[Course],
+    ahead: &Courses,
     old: &Served<'_>,
     new: &Served<'_>,
     heading: &Heading,
 ) -> Result<(Place, Place), CourseKind>
     ensures value { result ≡ places_by old.now new.now ahead.now heading.now }
+    ensures first { IfOk result (λ p. has_course ahead.now p.0 ≡ false) }
     ensures own { IfErr result IsOwn }
 {
     let Some(from) = old.find(&heading.from) else {
         return Err(CourseKind::Source);
     };
-    if has_course(ahead, from) {
+    if ahead.has(from) {
         return Err(CourseKind::Again);
     }
     let Some(to) = new.find(&heading.to) else {
@@ -158,29 +161,8 @@ fn places_of(
     Ok((from, to))
 }
 
-fn has_course(courses: &[Course], place: Place) -> bool
-    ensures { result ≡ has_course courses.now place }
-{
-    for course in courses {
-        if course.from == place {
-            return true;
-        }
-    }
-    false
-}
-
 fn is_blank(text: &[u8]) -> bool
     ensures { result ≡ is_blank text.now }
 {
     text.iter().all(|c| *c == b' ')
-}
-
-fn push(all: &mut Vec<Course>, course: Course) -> Result<(), Memory>
-    ensures { OnOk result (all.new.items ≡ all.old.items ++ course ∷ []) }
-{
-    let _place: Place = course.from;
-    match all.push(course) {
-        Ok(()) => Ok(()),
-        Err(_) => Err(Memory),
-    }
 }

@@ -1,9 +1,10 @@
 //! Live bookings on their new places, of which rows say where some go.
 //! It knows who owns a booking; no limit.
-ghost use Rattle.std.specs.Prelude.{◌≡◌, ◌++◌, IfOk, OnOk, option_map, option_to_list};
+ghost use Rattle.std.specs.Prelude.{◌≡◌, ◌++◌, IfOk, OnOk, option_to_list};
 ghost use Rattle.seat_moving.specs.Moving.{session_of};
-ghost use Rattle.carry_protections.specs.Going.{class_onto, course_for, goes, goes_by, moved_under, protected};
+ghost use Rattle.carry_protections.specs.Going.{class_onto, goes, goes_by, moved_under, protected};
 
+use crate::by_place::Courses;
 use crate::course::Course;
 use crate::row::ClassPair;
 use airline_base::{Class, Day, Memory, Place};
@@ -18,7 +19,7 @@ use std::alloc::Global;
 /// each other on its place of the new flights. Those that departed before today are left out, and others that no new flight serves.
 pub fn moved_under(
     alloc: Global,
-    courses: &[Course],
+    courses: &Courses,
     journal: &[Entry],
     flights: &Flights,
     old: &Served<'_>,
@@ -54,7 +55,7 @@ fn add(all: &mut Vec<Owned>, gone: Option<Owned>) -> Result<(), Memory>
 
 /// A booking where it goes, if it goes anywhere.
 pub(crate) fn goes(
-    courses: &[Course],
+    courses: &Courses,
     journal: &[Entry],
     flights: &Flights,
     old: &Served<'_>,
@@ -67,7 +68,7 @@ pub(crate) fn goes(
 {
     let target = target_of(flights, old, new, today, booking.place);
     let session = session_of(journal, booking);
-    match course_for(courses, booking.place) {
+    match courses.course(booking.place) {
         Some(course) => goes_by(session, booking, course, target),
         None => match target {
             Target::Onto(place) => Some(Owned {
@@ -113,18 +114,6 @@ fn class_onto(pairs: &[ClassPair], class: Class) -> Class
         }
     }
     class
-}
-
-/// The course of a place, where it has one.
-pub(crate) fn course_for(courses: &[Course], place: Place) -> Option<&Course>
-    ensures { option_map (λ c. c.now) result ≡ course_for courses.now place }
-{
-    for course in courses {
-        if course.from == place {
-            return Some(course);
-        }
-    }
-    None
 }
 
 /// The session of the line that made a booking; 0 where there is no such line.

@@ -2,11 +2,13 @@
 //! It knows rows, places and classes; nothing of limits but that a leg sells a class, of how a booking is asked for, or of files.
 #![tactic(auto)]
 
+mod by_place;
 mod course;
 mod going;
 mod refusing;
 mod row;
 
+pub use by_place::Courses;
 pub use course::{Course, CourseFault, CourseKind, read_courses};
 pub use going::moved_under;
 pub use refusing::{has_twice, lacking};

@@ -3,8 +3,8 @@
 ghost use Rattle.std.specs.Prelude.{◌≡◌, if◌then◌else◌};
 ghost use Rattle.carry_protections.specs.Refusing.{has_for, has_twice, is_twice, lacking, lacks, lacks_at};
 
-use crate::course::Course;
-use crate::going::{course_for, goes};
+use crate::by_place::Courses;
+use crate::going::goes;
 use airline_base::{Day, Place};
 use carry_lines::is_carriable;
 use seat_carrying::Owned;
@@ -15,7 +15,7 @@ use ssim_flights::{Flights, Served};
 
 /// The line of the row by which the first of these live bookings goes where its class is not sold, if there is one.
 pub fn lacking(
-    courses: &[Course],
+    courses: &Courses,
     journal: &[Entry],
     flights: &Flights,
     old: &Served<'_>,
@@ -37,7 +37,7 @@ pub fn lacking(
 }
 
 fn lacks(
-    courses: &[Course],
+    courses: &Courses,
     journal: &[Entry],
     flights: &Flights,
     old: &Served<'_>,
@@ -49,7 +49,7 @@ fn lacks(
     requires served { old.now ≡ flights.now }
     ensures { result ≡ lacks courses.now journal.now flights.now new.now today file.now booking.now }
 {
-    match course_for(courses, booking.place) {
+    match courses.course(booking.place) {
         Some(course) => {
             let gone = goes(courses, journal, flights, old, new, today, booking);
             lacks_at(course.line, file, gone)

@@ -5,7 +5,7 @@ use Rattle.carry_protections.proofs.course.read_courses.Given as goal
 
 abbrev pub invariant-loop-rest : goal.invariant-loop-rest
 invariant-loop-rest l = record {
-  goes : GoesOn l.old l.new l.bytes l.line l.rest l.all.items;
+  goes : GoesOn l.old l.new l.bytes l.line l.rest l.all;
   counted : l.line + length l.rest ≤ length l.bytes;
 }
 
