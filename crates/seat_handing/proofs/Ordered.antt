@@ -85,7 +85,7 @@ module _ {S J K : Type 0} (s_failures : S → ℕ) (s_named : S → Option (List
     taken_back back mid ahead put = record { mid = mid; ahead = ahead; put_back = put }
 
     -- of the newer journal a crash leaves no more than before
-    ahead_within : FailedAhead s_failures s_named s_leaves j_failures j_named j_leaves k_failures k_named k_leaves mark both seal_old seal_new journal_old journal_new new_old new_new
+    pub ahead_within : FailedAhead s_failures s_named s_leaves j_failures j_named j_leaves k_failures k_named k_leaves mark both seal_old seal_new journal_old journal_new new_old new_new
         → Within (j_leaves journal_new) (j_leaves journal_old)
     ahead_within failed = pick failed.step
       where

@@ -1,6 +1,8 @@
 pub mod Deciding
 pub mod Handing
+pub mod Judging
 pub mod Laws
 pub mod Marking
+pub mod Several
 pub mod Steps
 pub mod Stopping

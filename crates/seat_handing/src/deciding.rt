@@ -49,7 +49,7 @@ pub fn may_hand(
 }
 
 #[tactic(auto, using(crate::proofs::Hands::read_in))]
-fn seal_in(text: Option<&[u8]>) -> Option<Seal>
+pub(crate) fn seal_in(text: Option<&[u8]>) -> Option<Seal>
     ensures { IsSealIn (option_map (λ text. text.now) text.entry) result }
 {
     match text {
@@ -58,7 +58,7 @@ fn seal_in(text: Option<&[u8]>) -> Option<Seal>
     }
 }
 
-fn hand_for(
+pub(crate) fn hand_for(
     carried: &Option<Imprint>,
     name: &str,
     there: Option<&[u8]>,

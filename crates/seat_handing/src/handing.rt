@@ -102,6 +102,7 @@ pub fn hand_over<S: Replaced, J: Replaced, K: Replaced, W: NotedWrite>(
     ensures ahead { NoneUnsynced (S.synced seal.old) (S.synced seal.new)
         × NeitherUnsynced (J.synced journal.old) (J.synced journal.new) (K.synced new_seal.old) (K.synced new_seal.new) }
     ensures first { SameNames (J.synced journal.old) (J.synced journal.new) ⊎ AllSynced (S.synced seal.new) }
+    ensures same { IfErr result (λ f. f ≡ HandFault.TakenBack → SameNames (J.synced journal.old) (J.synced journal.new)) }
     ensures told { (out.new ≡ out.old)
         ⊎ (AllSynced (S.synced seal.new) × AreSynced (J.synced journal.new) (K.synced new_seal.new)) }
 {
@@ -167,6 +168,7 @@ fn hand_in_order<S: Replaced, J: Replaced, K: Replaced, W: NotedWrite>(
     ensures unsynced { NoneUnsynced (S.synced seal.old) (S.synced seal.new) }
     ensures unsynced_both { NeitherUnsynced (J.synced journal.old) (J.synced journal.new) (K.synced new_seal.old) (K.synced new_seal.new) }
     ensures first { SameNames (J.synced journal.old) (J.synced journal.new) ⊎ AllSynced (S.synced seal.new) }
+    ensures same { IfErr result (λ f. f ≡ HandFault.TakenBack → SameNames (J.synced journal.old) (J.synced journal.new)) }
     ensures told { (out.new ≡ out.old)
         ⊎ (AllSynced (S.synced seal.new) × AreSynced (J.synced journal.new) (K.synced new_seal.new)) }
 {
@@ -187,7 +189,7 @@ fn hand_in_order<S: Replaced, J: Replaced, K: Replaced, W: NotedWrite>(
 
 /// The text of the older journal's seal with the mark.
 #[tactic(auto, using(crate::proofs::Marks::says_carried, crate::proofs::Marks::names, crate::proofs::Marks::names_each))]
-fn text_of_mark(known: Sealed, name: &str, text: &[u8]) -> SealText
+pub(crate) fn text_of_mark(known: Sealed, name: &str, text: &[u8]) -> SealText
     requires known { is_sealed known ≡ true }
     requires fits { is_imprint (mark_of name.now text.now) ≡ true }
     ensures text { result.items ≡ mark_text known (mark_of name.now text.now) }
@@ -279,7 +281,7 @@ fn end<K: Replaced, W: NotedWrite>(
 
 /// Puts back what the older journal's seal had, unless that was a mark.
 #[tactic(auto, using(crate::proofs::Ordered::none_back, crate::proofs::Ordered::old_or_back, crate::proofs::Ordered::old_or_none, seat_disk::proofs::Keeping::no_more))]
-fn take_back<S: Replaced>(hand: Hand, before: &[u8], seal: &mut S) -> HandFault
+pub(crate) fn take_back<S: Replaced>(hand: Hand, before: &[u8], seal: &mut S) -> HandFault
     ensures taken { result ≡ HandFault.TakenBack
         → IsPutBack S.failure_count S.named S.may_leave (put_back hand before.now) seal.old seal.new }
     ensures left { result ≡ HandFault.Unfinished

@@ -4,11 +4,15 @@
 
 mod deciding;
 mod handing;
+mod judging;
 mod laws;
 mod marking;
 mod putting;
+mod several;
 
 pub use deciding::{Hand, HandRefusal, may_hand};
 pub use handing::{HandFault, hand_over};
+pub use judging::{HandsRefusal, Judgement, may_hand_each};
 pub use laws::what_is_marked_is_known;
 pub use marking::may_be_marked;
+pub use several::{OlderMark, hand_over_several, older_mark};
