@@ -53,8 +53,9 @@ module _ {D : Type 0} where
       → HasHeardLine old.desks new.desks old.today session line desk meaning
       → Plans old.flights old.serving.cap session desk (behind old.serving.grid old.serving.journal old.asked) meaning plan
       → new.asked ≡ old.asked ++ option_to_list plan.asked → new.turns ≡ old.turns ++ plan.turn ∷ []
-      → new.serving ≡ old.serving → new.today ≡ old.today → new.flights ≡ old.flights → new.backlogs ≡ old.backlogs → IsHeardBy old new session line
-  heard_by old new session line desk meaning plan heard plans asked turns serving today flights backlogs = record {
+      → new.serving ≡ old.serving → new.today ≡ old.today → new.flights ≡ old.flights → new.backlogs ≡ old.backlogs → new.manager ≡ old.manager
+      → IsHeardBy old new session line
+  heard_by old new session line desk meaning plan heard plans asked turns serving today flights backlogs manager = record {
     desk = desk;
     meaning = meaning;
     has_heard = heard;
@@ -63,6 +64,7 @@ module _ {D : Type 0} where
     plans = plans;
     asked_is = asked;
     turns_are = turns;
+    manager_is = manager;
   }
 
   -- where it was added
@@ -71,31 +73,33 @@ module _ {D : Type 0} where
       → Plans old.flights old.serving.cap session desk (behind old.serving.grid old.serving.journal old.asked) meaning plan
       → OnOk r ((new.asked ≡ old.asked ++ option_to_list plan.asked) × (new.turns ≡ old.turns ++ plan.turn ∷ []))
       → new.serving ≡ old.serving → new.today ≡ old.today → new.flights ≡ old.flights → new.backlogs ≡ old.backlogs
-      → OnOk r (IsHeardBy old new session line)
-  heard_if old new session line desk meaning plan (Ok x) heard plans more serving today flights backlogs =
-      heard_by old new session line desk meaning plan heard plans more.0 more.1 serving today flights backlogs
-  heard_if old new session line desk meaning plan (Err e) heard plans more serving today flights backlogs = tt
+      → new.manager ≡ old.manager → OnOk r (IsHeardBy old new session line)
+  heard_if old new session line desk meaning plan (Ok x) heard plans more serving today flights backlogs manager =
+      heard_by old new session line desk meaning plan heard plans more.0 more.1 serving today flights backlogs manager
+  heard_if old new session line desk meaning plan (Err e) heard plans more serving today flights backlogs manager = tt
 
   pub unheard : (old new : Hallful D) (session : ℕ) (line : List ℕ) (desk : Desk) (meaning : Meaning)
       → HasHeardLine old.desks new.desks old.today session line desk meaning → new.asked ≡ old.asked → new.turns ≡ old.turns
-      → new.serving ≡ old.serving → new.today ≡ old.today → new.flights ≡ old.flights → new.backlogs ≡ old.backlogs → IsUnheard old new session line
-  unheard old new session line desk meaning heard asked turns serving today flights backlogs = record {
+      → new.serving ≡ old.serving → new.today ≡ old.today → new.flights ≡ old.flights → new.backlogs ≡ old.backlogs → new.manager ≡ old.manager
+      → IsUnheard old new session line
+  unheard old new session line desk meaning heard asked turns serving today flights backlogs manager = record {
     desk = desk;
     meaning = meaning;
     has_heard = heard;
     same_host = record { serving_is = serving; today_is = today; flights_are = flights; backlogs_are = backlogs };
     asked_is = asked;
     turns_are = turns;
+    manager_is = manager;
   }
 
   -- and where it was not
   pub unheard_if : {A E : Type 0} (old new : Hallful D) (session : ℕ) (line : List ℕ) (desk : Desk) (meaning : Meaning) (r : Result A E)
       → HasHeardLine old.desks new.desks old.today session line desk meaning
       → OnErr r ((new.asked ≡ old.asked) × (new.turns ≡ old.turns)) → new.serving ≡ old.serving → new.today ≡ old.today
-      → new.flights ≡ old.flights → new.backlogs ≡ old.backlogs → OnErr r (IsUnheard old new session line)
-  unheard_if old new session line desk meaning (Ok x) heard same serving today flights backlogs = tt
-  unheard_if old new session line desk meaning (Err e) heard same serving today flights backlogs =
-      unheard old new session line desk meaning heard same.0 same.1 serving today flights backlogs
+      → new.flights ≡ old.flights → new.backlogs ≡ old.backlogs → new.manager ≡ old.manager → OnErr r (IsUnheard old new session line)
+  unheard_if old new session line desk meaning (Ok x) heard same serving today flights backlogs manager = tt
+  unheard_if old new session line desk meaning (Err e) heard same serving today flights backlogs manager =
+      unheard old new session line desk meaning heard same.0 same.1 serving today flights backlogs manager
 
   pub hall_more : (flights served : List Flown) (serving : Served D) (today : ℕ) (desks now : List Desk) (calls : List CallIndex)
       (old new : List Asked) (more : Option Asked) → IsHall flights served serving today desks calls old

@@ -4,6 +4,7 @@ use Rattle.std.specs.Prelude.{option_to_list}
 use Rattle.airline_base.specs.Days.{IsCenturyDay}
 use Rattle.desk_answers.specs.Saying.{HasHeard}
 use Rattle.desk_calls.specs.declared.call_index.CallIndex.{CallIndex}
+use Rattle.desk_lines.specs.Lines.{next_number}
 use Rattle.desk_lines.specs.declared.desk.Desk.{Desk}
 use Rattle.desk_lines.specs.declared.desk.Meaning.{Meaning}
 use Rattle.desk_telling.specs.Telling.{AreTold}
@@ -88,8 +89,9 @@ pub record IsOrdered {D : Type 0} (is_earlier : Bool) (old new : Hallful D) (lin
   pub flights_are : new.flights ≡ old.flights
   pub backlogs_are : new.backlogs ≡ old.backlogs
 
--- memory was wanting: nothing comes of it
+-- memory was wanting: the line counts, and nothing comes of it
 pub record IsUnordered {D : Type 0} (old new : Hallful D) : Type 0 where
+  pub counted : new.manager.lines ≡ next_number old.manager.lines
   pub asked_is : new.asked ≡ old.asked
   pub turns_are : new.turns ≡ old.turns
   pub desks_are : new.desks ≡ old.desks
@@ -116,6 +118,7 @@ pub record IsHeardBy {D : Type 0} (old new : Hallful D) (session : ℕ) (line : 
   pub plans : Plans old.flights old.serving.cap session desk (behind old.serving.grid old.serving.journal old.asked) meaning plan
   pub asked_is : new.asked ≡ old.asked ++ option_to_list plan.asked
   pub turns_are : new.turns ≡ old.turns ++ plan.turn ∷ []
+  pub manager_is : new.manager ≡ old.manager
 
 -- memory was wanting: the line counts, and nothing comes of it
 pub record IsUnheard {D : Type 0} (old new : Hallful D) (session : ℕ) (line : List ℕ) : Type 0 where
@@ -125,6 +128,7 @@ pub record IsUnheard {D : Type 0} (old new : Hallful D) (session : ℕ) (line : 
   pub same_host : IsSameHost old new
   pub asked_is : new.asked ≡ old.asked
   pub turns_are : new.turns ≡ old.turns
+  pub manager_is : new.manager ≡ old.manager
 
 -- lines count up to the highest number
 abbrev pub lines_behind : ℕ → ℕ → ℕ

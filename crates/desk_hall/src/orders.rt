@@ -4,7 +4,7 @@ ghost use Rattle.seat_limits.specs.ChangeRows.{IsChangeText};
 ghost use Rattle.airline_base.specs.Days.{IsCenturyDay, civil_in};
 ghost use Rattle.flight_days.specs.Leaving.{AreDaysOf};
 ghost use Rattle.desk_lines.specs.Calls.{call_at};
-ghost use Rattle.desk_lines.specs.Lines.{is_numbered, is_word};
+ghost use Rattle.desk_lines.specs.Lines.{is_numbered, is_word, next_number};
 ghost use Rattle.desk_lines.specs.Words.{count_at};
 ghost use Rattle.desk_hall.specs.Orders.{day_at, in_century, is_for_desk, iso_day_at, numbered_meaning, order_by_epoch, order_in, own_order, stop_at, IsCallBy, IsNumbered, IsOfCentury, IsOrder, IsRightOrder, IsRow, IsUnnamed};
 ghost use Rattle.ssim_flights.specs.declared.flight.Flight.{Flight as Flown};
@@ -91,6 +91,7 @@ pub fn order_of(
     requires days { AreDaysOf days.now flights.now }
     requires today { IsCenturyDay manager.old.today }
     ensures means { IfOk result (IsOrder is_earlier served.now manager.old manager.new line.now) }
+    ensures counted { manager.new.lines ≡ next_number manager.old.lines }
     ensures right { IfOk result (IsRightOrder served.now) }
     ensures century { IfOk result IsOfCentury }
 {

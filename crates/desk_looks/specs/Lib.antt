@@ -1,3 +1,4 @@
 pub mod Asking
+pub mod Galleries
 pub mod Watching
 pub mod Windows

@@ -1,7 +1,9 @@
 //! The viewers of a table that no desk has yet.
-ghost use Rattle.std.specs.Prelude.{◌≡◌, IfOk, IfSome};
+ghost use Rattle.std.specs.Prelude.{◌≡◌, ◌+◌, IfOk, IfSome, OnErr, vec_len};
+ghost use Rattle.std.specs.Option.{MatchOption};
 ghost use Rattle.std.specs.Arc.{arc_value};
 ghost use Rattle.desk_answers.specs.Hosts.{AreViewers};
+ghost use Rattle.desk_looks.specs.Galleries.{IsNext};
 
 use crate::looks::Looks;
 use crate::season::Season;
@@ -20,11 +22,12 @@ pub struct Gallery {
 impl Model for Gallery {
     ghost use Rattle.std.specs.Arc.{arc_value};
     ghost use Rattle.desk_answers.specs.Hosts.{AreViewers};
-    ghost use Rattle.desk_looks.specs.Windows.{Flown};
+    ghost use Rattle.std.specs.Prelude.{vec_len};
+    ghost use Rattle.desk_looks.specs.Galleries.{Hung};
 
-    ghost Value = { Flown };
+    ghost Value = { Hung };
 
-    ghost view = { λ s. arc_value s.season };
+    ghost view = { λ s. record { flown = arc_value s.season; left = vec_len s.viewers } };
 
     ghost invariant = { λ s. AreViewers (arc_value s.season).grid s.viewers.items };
 }
@@ -32,7 +35,7 @@ impl Model for Gallery {
 impl Gallery {
     pub fn new(season: &Arc<Season>, viewers: Vec<Viewer>) -> Result<Gallery, Memory>
         requires viewers { AreViewers (arc_value season.now).grid viewers.items }
-        ensures { IfOk result (λ gallery. gallery ≡ arc_value season.now) }
+        ensures { IfOk result (λ gallery. (gallery.flown ≡ arc_value season.now) × (gallery.left ≡ vec_len viewers)) }
     {
         let season = Arc::try_clone(season)?;
         Ok(Gallery { season, viewers })
@@ -40,7 +43,8 @@ impl Gallery {
 
     /// What a desk's looks are answered by, as long as there is a viewer that no desk has.
     pub fn next(&mut self) -> Result<Option<Looks>, Memory>
-        ensures { self.new ≡ self.old }
+        ensures next { IfOk result (IsNext self.old self.new) }
+        ensures memory { OnErr result (self.new ≡ self.old) }
     {
         let season = Arc::try_clone(&self.season)?;
         match take_viewer(&season, &mut self.viewers) {
@@ -54,6 +58,7 @@ impl Gallery {
 fn take_viewer(season: &Season, viewers: &mut Vec<Viewer>) -> Option<Viewer>
     requires viewers { AreViewers season.now.grid viewers.old.items }
     ensures viewer { IfSome result (λ viewer. viewer.grid ≡ season.now.grid) }
+    ensures left { MatchOption result ((vec_len viewers.old ≡ 0) × (vec_len viewers.new ≡ 0)) (λ _. vec_len viewers.new + 1 ≡ vec_len viewers.old) }
     ensures others { AreViewers season.now.grid viewers.new.items }
 {
     viewers.pop()

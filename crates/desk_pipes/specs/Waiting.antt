@@ -2,6 +2,7 @@
 use Rattle.std.specs.Prelude.{◌≡◌, ◌<◌, ◌+◌, ◌-◌, ℕ, ◌==◌, ◌&&◌, Bool, true, false, not, nat_le, nat_lt, List, [], ◌∷◌, ◌++◌, codes, get_or, length, set, slice_get, Option, Some, None}
 use Rattle.desk_pipes.specs.Watching.{one_more}
 use Rattle.desk_pipes.specs.declared.inbox.Said.{Said}
+use Rattle.desk_pipes.specs.declared.text.Text.{Text}
 
 -- the most lines of a desk that are not answered
 abbrev pub most_open : ℕ
@@ -49,6 +50,13 @@ abbrev pub text_told : Bool → Bool → List ℕ → List ℕ → List ℕ
 text_told true full old more = old
 text_told false true old more = old ++ codes "FAULT - LOST\n"
 text_told false false old more = old ++ more
+
+-- who writes what waits, whether what was taken is written, who waits for room, and whether more is told are as they were
+pub record IsSameOutlet (old new : Text) : Type 0 where
+  pub writing_is : new.is_writing ≡ old.is_writing
+  pub writer_is : new.has_writer ≡ old.has_writer
+  pub awaited_is : new.is_awaited ≡ old.is_awaited
+  pub over_is : new.is_over ≡ old.is_over
 
 -- whether it is too much
 abbrev pub is_full : List ℕ → Bool

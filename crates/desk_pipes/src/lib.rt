@@ -25,7 +25,7 @@ pub use outlook::{LooksGoBy, Outlook};
 pub use pipe_file::{
     PipeFault, PipeId, Role, Unopened, are_swapped, fault_of, open_pipe, pass_pair,
 };
-pub use post::Post;
+pub use post::{LastTold, Post};
 pub use text::{Begun, Delivered, DeliveredEach, Room};
 pub use threads::{mark_pipe, read_desk, start_writer, write_desk};
 pub use watch::{Outcome, Watch, Watched};

@@ -14,6 +14,7 @@ use crate::text::{Begun, Delivered, DeliveredEach, Room, Underway};
 use crate::watch::{Outcome, Watch, Watched};
 use airline_base::{Day, Memory};
 use std::alloc::Global;
+use std::marker::Model;
 use std::sync::{Mutex, Wait};
 use std::time::Clock;
 
@@ -23,6 +24,20 @@ pub struct Post {
     pub inbox: Inbox,
     outboxes: Outboxes,
     outlook: Mutex<Outlook>,
+}
+
+/// That a last text waits for each desk, and for the manager. Only who lets it has it.
+#[derive(Drop)]
+pub struct LastTold {
+    text: &'static [u8],
+}
+
+impl Model for LastTold {
+    ghost use Rattle.std.specs.Prelude.{ℕ, List};
+
+    ghost Value = { List ℕ };
+
+    ghost view = { λ s. s.text.now };
 }
 
 impl Post {
@@ -43,10 +58,13 @@ impl Post {
     }
 
     /// Lets a last text wait for each desk, and for the manager.
-    pub fn tell_each_last<R: Wait>(&self, rt: &R, text: &[u8]) {
+    pub fn tell_each_last<R: Wait>(&self, rt: &R, text: &'static [u8]) -> LastTold
+        ensures { result ≡ text.now }
+    {
         for outbox in self.outboxes.as_slice() {
             outbox.tell_last(rt, text);
         }
+        LastTold { text }
     }
 
     /// The day on which lines are read, and how many lines of the journal are told.
@@ -104,9 +122,9 @@ impl Post {
     pub fn room<R: Wait>(&self, rt: &R, session: u8) -> Room
         ensures own { result.session ≡ session }
     {
-        match self.outbox(session) {
+        match self.outboxes.of(session) {
             Some(outbox) => outbox.room(rt),
-            None => Room::nowhere(session),
+            None => Room::nowhere(&self.outboxes, session),
         }
     }
 

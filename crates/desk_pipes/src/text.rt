@@ -1,7 +1,7 @@
 //! What lies in an outbox under its lock.
 //! What was done there is known by a value that is made here alone: a letter that waits, a client that has begun, room for a piece.
 ghost use Rattle.std.specs.Prelude.{◌≡◌, ◌≤◌, ◌<◌, ◌&&◌, ◌||◌, [], true, false, not, nat_lt, if◌then◌else◌, length, OnErr, OnOk};
-ghost use Rattle.desk_pipes.specs.Waiting.{are_none, has_room, is_full, is_owed, next_session, next_text, text_told, IsFurther};
+ghost use Rattle.desk_pipes.specs.Waiting.{are_none, has_room, is_full, is_owed, next_session, next_text, text_told, IsFurther, IsSameOutlet};
 
 use crate::letter::Letter;
 use crate::outboxes::Outboxes;
@@ -51,6 +51,7 @@ impl Text {
             ≡ text_told self.old.is_lost (is_full self.old.bytes.items) self.old.bytes.items more.now) }
         ensures lost { OnOk result (self.new.is_lost ≡ (self.old.is_lost || is_full self.old.bytes.items)) }
         ensures memory { OnErr result ((self.new.bytes.items ≡ self.old.bytes.items) × (self.new.is_lost ≡ true)) }
+        ensures same { IsSameOutlet self.old self.new }
     {
         if self.is_lost {
             return Ok(());
@@ -74,6 +75,7 @@ impl Text {
             ≡ text_told self.old.is_lost (is_full self.old.bytes.items) self.old.bytes.items (L.posted letter).text) }
         ensures lost { OnOk result.1 (self.new.is_lost ≡ (self.old.is_lost || is_full self.old.bytes.items)) }
         ensures memory { OnErr result.1 ((self.new.bytes.items ≡ self.old.bytes.items) × (self.new.is_lost ≡ true)) }
+        ensures same { IsSameOutlet self.old self.new }
     {
         let added = self.add(letter.text());
         (Delivered { letter }, added)
@@ -90,6 +92,7 @@ impl Text {
             ≡ text_told self.old.is_lost (is_full self.old.bytes.items) self.old.bytes.items (next_text L.posted underway.old)) }
         ensures lost { OnOk result (self.new.is_lost ≡ (self.old.is_lost || is_full self.old.bytes.items)) }
         ensures memory { OnErr result ((self.new.bytes.items ≡ self.old.bytes.items) × (self.new.is_lost ≡ true)) }
+        ensures same { IsSameOutlet self.old self.new }
     {
         let added = self.add(underway.text());
         underway.go_further();
@@ -102,6 +105,7 @@ impl Text {
             ≡ text_told self.old.is_lost (is_full self.old.bytes.items) self.old.bytes.items last.now) }
         ensures lost { self.new.is_lost ≡ true }
         ensures memory { OnErr result (self.new.bytes.items ≡ self.old.bytes.items) }
+        ensures same { IsSameOutlet self.old self.new }
     {
         let added = self.add(last);
         self.is_lost = true;
@@ -113,7 +117,8 @@ impl Text {
         ensures own { result.session ≡ session }
         ensures room { result.is_there ≡ has_room self.old.bytes.items }
         ensures awaited { self.new.is_awaited ≡ (self.old.is_awaited || not result.is_there) }
-        ensures same { (self.new.bytes ≡ self.old.bytes) × (self.new.is_lost ≡ self.old.is_lost) × (self.new.is_over ≡ self.old.is_over) }
+        ensures same { (self.new.bytes ≡ self.old.bytes) × (self.new.is_lost ≡ self.old.is_lost) × (self.new.is_writing ≡ self.old.is_writing)
+            × (self.new.has_writer ≡ self.old.has_writer) × (self.new.is_over ≡ self.old.is_over) }
     {
         if self.bytes.len() < MOST_AHEAD {
             return Room {
@@ -134,6 +139,8 @@ impl Text {
         ensures none { self.new.bytes.items ≡ [] }
         ensures awaited { result ≡ self.old.is_awaited }
         ensures served { self.new.is_awaited ≡ false }
+        ensures taken { self.new.is_writing ≡ true }
+        ensures same { (self.new.is_lost ≡ self.old.is_lost) × (self.new.has_writer ≡ self.old.has_writer) × (self.new.is_over ≡ self.old.is_over) }
     {
         bytes.clear();
         mem::swap(&mut self.bytes, bytes);
@@ -148,6 +155,7 @@ impl Text {
         ensures own { result ≡ session }
         ensures text { self.new.bytes.items ≡ (if self.old.is_lost then [] else self.old.bytes.items) }
         ensures whole { self.new.is_lost ≡ false }
+        ensures same { IsSameOutlet self.old self.new }
     {
         if self.is_lost {
             self.bytes.clear();
@@ -166,7 +174,8 @@ impl Text {
     /// Somebody writes what waits, or nobody does any more.
     pub(crate) fn set_writer(&mut self, has_writer: bool)
         ensures writer { self.new.has_writer ≡ has_writer }
-        ensures same { (self.new.bytes ≡ self.old.bytes) × (self.new.is_lost ≡ self.old.is_lost) × (self.new.is_writing ≡ self.old.is_writing) × (self.new.is_over ≡ self.old.is_over) }
+        ensures same { (self.new.bytes ≡ self.old.bytes) × (self.new.is_lost ≡ self.old.is_lost) × (self.new.is_writing ≡ self.old.is_writing)
+            × (self.new.is_awaited ≡ self.old.is_awaited) × (self.new.is_over ≡ self.old.is_over) }
     {
         self.has_writer = has_writer;
     }
@@ -174,7 +183,8 @@ impl Text {
     /// What was taken is written.
     pub(crate) fn written(&mut self)
         ensures written { self.new.is_writing ≡ false }
-        ensures same { (self.new.bytes ≡ self.old.bytes) × (self.new.is_lost ≡ self.old.is_lost) × (self.new.has_writer ≡ self.old.has_writer) × (self.new.is_over ≡ self.old.is_over) }
+        ensures same { (self.new.bytes ≡ self.old.bytes) × (self.new.is_lost ≡ self.old.is_lost) × (self.new.has_writer ≡ self.old.has_writer)
+            × (self.new.is_awaited ≡ self.old.is_awaited) × (self.new.is_over ≡ self.old.is_over) }
     {
         self.is_writing = false;
     }
@@ -182,7 +192,8 @@ impl Text {
     /// Nothing more is told.
     pub(crate) fn end(&mut self)
         ensures over { self.new.is_over ≡ true }
-        ensures same { (self.new.bytes ≡ self.old.bytes) × (self.new.is_lost ≡ self.old.is_lost) × (self.new.has_writer ≡ self.old.has_writer) × (self.new.is_writing ≡ self.old.is_writing) }
+        ensures same { (self.new.bytes ≡ self.old.bytes) × (self.new.is_lost ≡ self.old.is_lost) × (self.new.has_writer ≡ self.old.has_writer)
+            × (self.new.is_awaited ≡ self.old.is_awaited) × (self.new.is_writing ≡ self.old.is_writing) }
     {
         self.is_over = true;
     }
@@ -212,9 +223,11 @@ impl Model for Room {
 
 impl Room {
     /// There is none for a session that no desk has.
-    pub(crate) fn nowhere(session: u8) -> Room
+    pub(crate) fn nowhere(outboxes: &Outboxes, session: u8) -> Room
+        requires nobody { length outboxes.now ≤ session }
         ensures { (result.session ≡ session) × (result.is_there ≡ false) }
     {
+        let _ = outboxes;
         Room {
             session,
             is_there: false,

@@ -1,5 +1,5 @@
 -- The lines of a group, and what each desk is told of them.
-use Rattle.std.proofs.Common.{◌≡◌, ◌<◌, ◌≤◌, ℕ, suc, ◌+◌, ◌-◌, ◌&&◌, Bool, true, false, List, [], ◌∷◌, ◌++◌, length, map, take, get_or, refl, sym, ap, ◌∙◌, subst, arith, length-append}
+use Rattle.std.proofs.Common.{◌≡◌, ◌<◌, ◌≤◌, ℕ, suc, ◌+◌, ◌-◌, ◌==◌, ◌&&◌, Bool, true, false, List, [], ◌∷◌, ◌++◌, length, map, take, get_or, refl, sym, ap, ◌∙◌, subst, arith, length-append}
 use Rattle.std.proofs.Math.Bool.{and-true, and_assoc}
 use Rattle.std.proofs.lemmas.List.{map-append, take_all, take_more}
 use Rattle.std.specs.Prelude.{All, Option, Some, None, is_some, replicate, slice_get, Result, Ok, Err, IfOk}
@@ -10,8 +10,9 @@ use Rattle.desk_pipes.specs.Waiting.{Posted}
 use Rattle.desk_lines.specs.declared.desk.Desk.{Desk}
 use Rattle.desk_pipes.specs.declared.inbox.Said.{Said}
 use Rattle.desk_serving.specs.Going.{is_apart}
-use Rattle.desk_serving.specs.Groups.{AreFrom, AreGroups, AreNotices, AreSteps, AreTaken, AreTold, GoesThrough, IsAnswered, IsBooked, IsCaughtUp, IsCaughtUpBy, IsForgotten, IsGiven, IsGroup, IsHallOver, IsOne, IsOneBy, IsOwn, IsServed, IsServedTo, IsStep, IsStepped, IsTaken, IsTakenApart, IsTakenUp, IsTold, IsToldOn, IsWanting, IsWordAnswered, IsWordClosed, SaysWanting, goes_on}
+use Rattle.desk_serving.specs.Groups.{AreFrom, AreGroups, AreNotices, AreSteps, AreTaken, AreTold, GoesThrough, IsAnswered, IsBooked, IsCaughtUp, IsCaughtUpBy, IsForgotten, IsGiven, IsGroup, IsHallOver, IsOne, IsOneBy, IsOwn, IsServed, IsServedTo, IsStep, IsStepped, IsTaken, IsTakenApart, IsTakenUp, IsTold, IsToldOn, IsUnheardAs, IsWanting, IsWordAnswered, IsWordClosed, SaysWanting, goes_on}
 use Rattle.desk_serving.specs.Silence.{IsSilentAt}
+use Rattle.desk_serving.proofs.Passes.{not_zero}
 use Rattle.desk_serving.specs.declared.step.Step.{Step}
 use Rattle.desk_serving.specs.declared.taking.Taking.{Taking}
 use Rattle.desk_serving.specs.declared.taking.Taking.TheVariants.{Nobodys}
@@ -106,9 +107,9 @@ module _ {D : Type 0} where
   says_wanting hall session number told manager desk whose is =
       record { number = number; has_said = record { manager = manager; desk = desk }; session_is = whose; text_is = is }
 
-  pub wanting : (old mid new : Hallful D) (session : ℕ) (want told : Posted) → IsForgotten old mid → IsAnswered mid new
-      → SaysWanting mid session want → told ≡ want → IsWanting old new session told
-  wanting old mid new session want told a b says is =
+  pub wanting : (old mid new : Hallful D) (session passed : ℕ) (line : List ℕ) (want told : Posted) → IsForgotten old mid session passed line
+      → IsAnswered mid new → SaysWanting mid session want → told ≡ want → IsWanting old new session passed line told
+  wanting old mid new session passed line want told a b says is =
       record { mid = mid; forgotten = a; answered = b; says = subst (SaysWanting mid session) (sym is) says }
 
   pub taken_up : (old first new : Hallful D) (one : Said) (taking : Taking) (goes : Bool) → IsCaughtUp old first one.session
@@ -171,27 +172,20 @@ module _ {D : Type 0} where
   pub told_on : (old mid new : Hallful D) → IsAnswered old mid → AreSteps (length mid.desks + 1) mid new → IsToldOn old new
   told_on old mid new a b = record { mid = mid; answered = a; pieces = b }
 
-  pub unordered : (old mid new : Hallful D) (session more : ℕ) → IsPassed old mid session more → IsUnordered mid new → IsForgotten old new
-  unordered old mid new session more a b = record {
-    asked_is = b.asked_is ∙ a.asked_is;
-    turns_are = b.turns_are ∙ a.turns_are;
-    serving_is = b.same_host.serving_is ∙ a.same_host.serving_is;
-    today_is = b.same_host.today_is ∙ a.same_host.today_is;
-    flights_are = b.same_host.flights_are ∙ a.same_host.flights_are;
-    backlogs_are = b.same_host.backlogs_are ∙ a.same_host.backlogs_are;
-    count_is = ap length b.desks_are ∙ a.count_is;
+  pub unordered : (old mid new : Hallful D) (session more : ℕ) (line : List ℕ) → session ≡ 0 → IsPassed old mid session more → IsUnordered mid new
+      → IsForgotten old new session more line
+  unordered old mid new session more line none a b = record {
+    mid = mid;
+    is_passed = a;
+    is_unheard = subst (λ (x : Bool). IsUnheardAs x mid new session line) (sym (ap (λ (n : ℕ). n == 0) none)) b;
   }
 
-  pub unheard : (old mid new : Hallful D) (session more : ℕ) (line : List ℕ) → IsPassed old mid session more → IsUnheard mid new session line
-      → length new.desks ≡ length mid.desks → IsForgotten old new
-  unheard old mid new session more line a b count = record {
-    asked_is = b.asked_is ∙ a.asked_is;
-    turns_are = b.turns_are ∙ a.turns_are;
-    serving_is = b.same_host.serving_is ∙ a.same_host.serving_is;
-    today_is = b.same_host.today_is ∙ a.same_host.today_is;
-    flights_are = b.same_host.flights_are ∙ a.same_host.flights_are;
-    backlogs_are = b.same_host.backlogs_are ∙ a.same_host.backlogs_are;
-    count_is = count ∙ a.count_is;
+  pub unheard : (old mid new : Hallful D) (session more : ℕ) (line : List ℕ) → (session ≡ 0 → ⊥) → IsPassed old mid session more
+      → IsUnheard mid new session line → IsForgotten old new session more line
+  unheard old mid new session more line other a b = record {
+    mid = mid;
+    is_passed = a;
+    is_unheard = subst (λ (x : Bool). IsUnheardAs x mid new session line) (sym (not_zero session other)) b;
   }
 
   pub apart : (closes : Bool) (old mid new : Hallful D) (one : Said) (goes : Bool) → IsTaken old mid one goes → IsWordClosed closes mid new

@@ -5,7 +5,7 @@ use Rattle.std.specs.Prelude.{Bool, true, false, Result, Ok, Err, IfOk}
 use Rattle.desk_hall.specs.Halls.{Hallful, IsHeardBy, IsOrdered, IsPassed}
 use Rattle.desk_serving.specs.Going.{IsHeardAs, IsHeardBehind}
 
-not_zero : (n : ℕ) → (n ≡ 0 → ⊥) → (n == 0) ≡ false
+pub not_zero : (n : ℕ) → (n ≡ 0 → ⊥) → (n == 0) ≡ false
 not_zero n other = grind (arith, nat_tests)
 
 module _ {D : Type 0} (is_earlier : Bool) (old mid new : Hallful D) (session passed : ℕ) (line : List ℕ)

@@ -1,5 +1,5 @@
 -- The day of a host of desks, in the seal of its journal while it serves.
-use Rattle.std.specs.Prelude.{◌≡◌, ℕ, List, Option, true}
+use Rattle.std.specs.Prelude.{◌≡◌, ℕ, List, Option, Some, None, codes, true}
 use Rattle.seat_disk.specs.Keeping.{KeepsNoMore}
 use Rattle.seat_disk.specs.Leaving.{Only, replaced_by}
 use Rattle.seat_journal.specs.declared.entry.Entry.{Entry}
@@ -90,6 +90,16 @@ pub record FailsBy {D : Type 0} (seen : D → Option (List ℕ)) (leaves : D →
 -- where the file of the seal failed a call of it was counted
 pub record CountsSeal {K : Type 0} (failures : K → ℕ) (before after : K) (fault : GroupFault) : Type 0 where
   pub counted : fault ≡ Seal NoFile → HasFailed failures before after
+
+-- the file of the journal or of the seal failed
+abbrev pub no_file_line : List ℕ
+no_file_line = codes "FAULT - DEVICE\n"
+
+-- each desk and the manager are told so; where memory was wanting nobody is
+abbrev pub IsSaidLast : GroupFault → Option (List ℕ) → Type 0
+IsSaidLast (Serve NoMemory) said = said ≡ None
+IsSaidLast (Serve Device) said = said ≡ Some no_file_line
+IsSaidLast (Seal fault) said = said ≡ Some no_file_line
 
 -- what the host of the desks failed by
 abbrev pub hosted_by : GroupFault → HostedFault

@@ -1,8 +1,8 @@
 -- The lines of a group, heard one by one, and what each desk is told of them.
-use Rattle.std.specs.Prelude.{◌≡◌, ◌<◌, ◌≤◌, ◌-◌, ◌+◌, ◌&&◌, ◌++◌, ℕ, zero, suc, Bool, true, false, List, [], ◌∷◌, codes, length, map, replicate, is_some, slice_get, Option, Some, None, All}
+use Rattle.std.specs.Prelude.{◌≡◌, ◌<◌, ◌≤◌, ◌-◌, ◌+◌, ◌==◌, ◌&&◌, ◌++◌, ℕ, zero, suc, Bool, true, false, List, [], ◌∷◌, codes, length, map, replicate, is_some, slice_get, Option, Some, None, All}
 use Rattle.desk_answers.specs.FaultLines.{fault_line, memory_line}
 use Rattle.desk_hall.specs.Departed.{closings, is_day_given}
-use Rattle.desk_hall.specs.Halls.{Hallful, IsOpened, IsPiece, IsSameHall, IsSet, IsToldTo}
+use Rattle.desk_hall.specs.Halls.{Hallful, IsOpened, IsPassed, IsPiece, IsSameHall, IsSet, IsToldTo, IsUnheard, IsUnordered}
 use Rattle.desk_hall.specs.Pieces.{again_asked, backlog_of}
 use Rattle.desk_lines.specs.declared.desk.Desk.{Desk}
 use Rattle.desk_pipes.specs.Waiting.{Posted}
@@ -183,15 +183,16 @@ pub record IsNobodys {D : Type 0} (old new : Hallful D) (one : Said) : Type 0 wh
   pub nobodys : length old.desks < one.session
   pub same : new ≡ old
 
--- memory was wanting for a line: nothing comes of it
-pub record IsForgotten {D : Type 0} (old new : Hallful D) : Type 0 where
-  pub asked_is : new.asked ≡ old.asked
-  pub turns_are : new.turns ≡ old.turns
-  pub serving_is : new.serving ≡ old.serving
-  pub today_is : new.today ≡ old.today
-  pub flights_are : new.flights ≡ old.flights
-  pub backlogs_are : new.backlogs ≡ old.backlogs
-  pub count_is : length new.desks ≡ length old.desks
+-- memory was wanting for a line of the manager, or of a session's desk: it counts, and nothing comes of it
+abbrev pub IsUnheardAs : {D : Type 0} → Bool → Hallful D → Hallful D → ℕ → List ℕ → Type 0
+IsUnheardAs true old new session line = IsUnordered old new
+IsUnheardAs false old new session line = IsUnheard old new session line
+
+-- it counts behind so many lines of it that were answered where they were read
+pub record IsForgotten {D : Type 0} (old new : Hallful D) (session passed : ℕ) (line : List ℕ) : Type 0 where
+  pub mid : Hallful D
+  pub is_passed : IsPassed old mid session passed
+  pub is_unheard : IsUnheardAs (session == 0) mid new session line
 
 -- how many lines the manager has said, or a session's desk
 pub record HasSaid {D : Type 0} (hall : Hallful D) (session number : ℕ) : Type 0 where
@@ -206,9 +207,9 @@ pub record SaysWanting {D : Type 0} (hall : Hallful D) (session : ℕ) (told : P
   pub text_is : told.text ≡ memory_line session number
 
 -- all ahead of it is answered, and then its desk is told so
-pub record IsWanting {D : Type 0} (old new : Hallful D) (session : ℕ) (told : Posted) : Type 0 where
+pub record IsWanting {D : Type 0} (old new : Hallful D) (session passed : ℕ) (line : List ℕ) (told : Posted) : Type 0 where
   pub mid : Hallful D
-  pub forgotten : IsForgotten old mid
+  pub forgotten : IsForgotten old mid session passed line
   pub answered : IsAnswered mid new
   pub says : SaysWanting mid session told
 
@@ -216,7 +217,7 @@ pub record IsWanting {D : Type 0} (old new : Hallful D) (session : ℕ) (told : 
 abbrev pub IsTakenUp : {D : Type 0} → Hallful D → Hallful D → Said → Taking → Type 0
 IsTakenUp old new one Nobodys = IsNobodys old new one
 IsTakenUp old new one (Heard goes) = IsHeardBehind one.is_earlier old new one.session one.passed one.line.items goes
-IsTakenUp old new one (Forgotten told) = IsWanting old new one.session told
+IsTakenUp old new one (Forgotten told) = IsWanting old new one.session one.passed one.line.items told
 
 -- only a line that is heard may end the host
 abbrev pub goes_on : Taking → Bool

@@ -265,7 +265,7 @@ fn hear<D: Tape>(
     requires session { session ≤ length hall.old.desks }
     requires told { backlog_of hall.old.backlogs session ≡ None }
     ensures heard { IfOk result (IsHeardBehind is_earlier hall.old hall.new session passed line.now) }
-    ensures forgotten { OnErr result (IsForgotten hall.old hall.new) }
+    ensures forgotten { OnErr result (IsForgotten hall.old hall.new session passed line.now) }
     ensures same { hall.new.serving ≡ hall.old.serving }
     ensures count { length hall.new.desks ≡ length hall.old.desks }
     ensures memory { OnErr result (hall.new.today ≡ hall.old.today) }

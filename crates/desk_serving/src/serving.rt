@@ -14,7 +14,7 @@ ghost use Rattle.seat_restoring.specs.Dating.{IsDated, Stands};
 ghost use Rattle.seat_restoring.specs.Serving.{IsSealedEnd, NamesAll};
 ghost use Rattle.seat_serving.specs.declared.serving.ServeFault.TheVariants.{Device, Memory as NoMemory};
 ghost use Rattle.desk_answers.specs.Hosts.{IsReady};
-ghost use Rattle.desk_serving.specs.Daily.{CountsSeal, FailsBy, IsOfEpoch, IsOnDay, IsSealedOn, IsSealedStill, IsUnsealed, StaysNamed, hosted_by};
+ghost use Rattle.desk_serving.specs.Daily.{CountsSeal, FailsBy, IsOfEpoch, IsOnDay, IsSealedOn, IsSaidLast, IsSealedStill, IsUnsealed, StaysNamed, hosted_by};
 ghost use Rattle.desk_serving.specs.declared.day.GroupFault.TheVariants.{Serve};
 ghost use Rattle.desk_serving.specs.Going.{GoesOn};
 ghost use Rattle.desk_serving.specs.Groups.{IsServed, IsServedTo, who_is_behind};
@@ -27,7 +27,7 @@ use crate::opening::hall_over;
 use crate::pieces::room_of;
 use desk_answers::OpenHost;
 use desk_hall::Hall;
-use desk_pipes::{Post, Taken};
+use desk_pipes::{LastTold, Post, Taken};
 use desk_status::Board;
 use seat_desk::DeskFault;
 use seat_disk::{Replaced, Tape};
@@ -100,7 +100,8 @@ pub fn serve_desks<R: Wait, D: Tape, K: Replaced>(
         Ok(served) => served,
         Err(refused) => {
             let (fault, tape) = refused;
-            return Err((hosted_fault(rt, post, fault), tape));
+            let said = say_last(rt, post, &fault);
+            return Err((hosted_fault(fault, &said), tape));
         }
     };
     let (ended, tape) = served;
@@ -111,19 +112,27 @@ pub fn serve_desks<R: Wait, D: Tape, K: Replaced>(
 }
 
 // Says to each desk that a file failed.
-fn hosted_fault<R: Wait>(rt: &R, post: &Post, fault: GroupFault) -> HostedFault
-    ensures { result ≡ hosted_by fault }
+fn say_last<R: Wait>(rt: &R, post: &Post, fault: &GroupFault) -> Option<LastTold>
+    ensures { IsSaidLast fault.now result }
 {
     match fault {
-        GroupFault::Serve(ServeFault::Memory) => HostedFault::Day(ServeFault::Memory),
-        GroupFault::Serve(fault) => {
-            post.tell_each_last(rt, b"FAULT - DEVICE\n");
-            HostedFault::Day(fault)
-        }
-        GroupFault::Seal(fault) => {
-            post.tell_each_last(rt, b"FAULT - DEVICE\n");
-            HostedFault::Dating(fault)
-        }
+        GroupFault::Serve(fault) => match fault {
+            ServeFault::Memory => None,
+            ServeFault::Device => Some(post.tell_each_last(rt, b"FAULT - DEVICE\n")),
+        },
+        GroupFault::Seal(_) => Some(post.tell_each_last(rt, b"FAULT - DEVICE\n")),
+    }
+}
+
+// Why it is not ended, where each desk is told that a file failed.
+fn hosted_fault(fault: GroupFault, said: &Option<LastTold>) -> HostedFault
+    requires said { IsSaidLast fault said.now }
+    ensures { result ≡ hosted_by fault }
+{
+    let _ = said;
+    match fault {
+        GroupFault::Serve(fault) => HostedFault::Day(fault),
+        GroupFault::Seal(fault) => HostedFault::Dating(fault),
     }
 }
 

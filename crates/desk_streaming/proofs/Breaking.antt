@@ -9,9 +9,10 @@ use Rattle.desk_serving.proofs.Goes.{begins_on, goes_as, goes_same, told_ready}
 use Rattle.desk_stream.specs.Feeds.{Feeding}
 use Rattle.desk_stream.specs.declared.hearing.FeedFault.{FeedFault}
 use Rattle.desk_stream.specs.declared.hearing.FeedFault.TheVariants as hearings
-use Rattle.desk_streaming.specs.Streaming.{broken_by, stopped_by, Breaks, IsOfAnswer, IsOfTelling}
+use Rattle.desk_streaming.specs.Streaming.{broken_by, stopped_by, Breaks, IsOfAnswer, IsOfFile, IsOfTelling}
 use Rattle.desk_streaming.specs.declared.fault.StreamFault.{StreamFault}
 use Rattle.desk_streaming.specs.declared.fault.StreamFault.TheVariants.{Input, Output, Memory, Strange, Journal, Dating}
+use Rattle.desk_talk.specs.Talks.{IsWritten}
 use Rattle.seat_desk.specs.Desk.{HasFailed}
 use Rattle.seat_desk.specs.declared.fault.DeskFault.{DeskFault}
 use Rattle.seat_desk.specs.declared.fault.DeskFault.TheVariants.{Device as NoSeal}
@@ -36,6 +37,24 @@ of_telling Memory is = tt
 of_telling (Strange line number) is = absurd is
 of_telling Journal is = tt
 of_telling (Dating fault) is = tt
+
+-- ---- what is said of a file that failed
+
+module _ {W : Type 0} (failures : W → ℕ) (contents : W → Option (List ℕ)) (line : List ℕ) (old new : W) where
+  -- what can't be told is no file's fault
+  pub said_told : (b : StreamFault) → IsOfTelling b → IsOfFile b → IsWritten failures contents line old new
+  said_told Input of file = absurd of
+  said_told Output of file = absurd file
+  said_told Memory of file = absurd file
+  said_told (Strange line number) of file = absurd of
+  said_told Journal of file = absurd of
+  said_told (Dating fault) of file = absurd of
+
+  -- want of memory for what is booked is none
+  pub said_booked : (fault : ServeFault) (b : StreamFault) → b ≡ broken_by fault
+      → (fault ≡ serves.Device → IsWritten failures contents line old new) → IsOfFile b → IsWritten failures contents line old new
+  said_booked serves.Memory b is said file = absurd (subst IsOfFile is file)
+  said_booked serves.Device b is said file = said refl
 
 pub no_output : (fault : ServeFault) (b : StreamFault) (m n : ℕ) → b ≡ broken_by fault → b ≡ Output → m ≡ n
 no_output serves.Memory b m n is other = absurd (cc (sym is ∙ other))

@@ -288,6 +288,12 @@ abbrev pub broken_by : ServeFault → StreamFault
 broken_by serves.Memory = Memory
 broken_by serves.Device = Journal
 
+-- a file failed
+abbrev pub IsOfFile : StreamFault → Type 0
+IsOfFile Journal = Unit {0}
+IsOfFile (Dating fault) = Unit {0}
+IsOfFile _ = ⊥
+
 -- memory is wanting for what is told, or it can't be written
 abbrev pub IsOfTelling : StreamFault → Type 0
 IsOfTelling Memory = Unit {0}

@@ -4,8 +4,9 @@ ghost use Rattle.airline_base.specs.Noting.{noted, TookFront};
 ghost use Rattle.desk_answers.specs.Hosts.{IsReady};
 ghost use Rattle.desk_serving.specs.Daily.{IsOnDay, IsSealedOn, StaysNamed};
 ghost use Rattle.desk_serving.specs.Going.{Fails, GoesOn};
-ghost use Rattle.desk_streaming.specs.Streaming.{broken_by, later_day, no_file_line, Breaks, EndsBooked, EndsIn, EndsTold, IsAnswered, IsBooked, IsOfAnswer, IsOfTelling, IsToldTo, Lived, Says};
+ghost use Rattle.desk_streaming.specs.Streaming.{broken_by, later_day, no_file_line, Breaks, EndsBooked, EndsIn, EndsTold, IsAnswered, IsBooked, IsOfAnswer, IsOfFile, IsOfTelling, IsToldTo, Lived, Says};
 ghost use Rattle.desk_streaming.specs.declared.fault.StreamFault.TheVariants.{Dating, Output};
+ghost use Rattle.desk_talk.specs.Talks.{IsWritten};
 ghost use Rattle.seat_desk.specs.Desk.{HasFailed};
 ghost use Rattle.seat_desk.specs.declared.fault.DeskFault.TheVariants.{Device as NoSeal};
 
@@ -20,7 +21,7 @@ use std::alloc::Global;
 use std::sync::Wait;
 
 /// Answers what was heard. A later day is in the seal, on its disk, before anything is told under it.
-#[tactic(auto, using(desk_serving::proofs::Daily::stays_on, desk_serving::proofs::Daily::on_day_of, crate::proofs::Answering::is_answered, crate::proofs::Answering::lived_answered, desk_serving::proofs::Goes::goes_as, crate::proofs::Answering::since_booked, crate::proofs::Breaking::breaks_sealed, crate::proofs::Breaking::breaks_booked, crate::proofs::Breaking::breaks_told, crate::proofs::Breaking::of_booking, crate::proofs::Breaking::of_telling, crate::proofs::Breaking::no_output, crate::proofs::Breaking::dating_failed, crate::proofs::Breaking::no_dating, crate::proofs::Breaking::told_undated, crate::proofs::Written::ends_told, crate::proofs::Written::ends_booked, crate::proofs::Written::ends_undated))]
+#[tactic(auto, using(desk_serving::proofs::Daily::stays_on, desk_serving::proofs::Daily::on_day_of, crate::proofs::Answering::is_answered, crate::proofs::Answering::lived_answered, desk_serving::proofs::Goes::goes_as, crate::proofs::Answering::since_booked, crate::proofs::Breaking::breaks_sealed, crate::proofs::Breaking::breaks_booked, crate::proofs::Breaking::breaks_told, crate::proofs::Breaking::of_booking, crate::proofs::Breaking::of_telling, crate::proofs::Breaking::no_output, crate::proofs::Breaking::dating_failed, crate::proofs::Breaking::no_dating, crate::proofs::Breaking::told_undated, crate::proofs::Breaking::said_told, crate::proofs::Breaking::said_booked, crate::proofs::Written::ends_told, crate::proofs::Written::ends_booked, crate::proofs::Written::ends_undated))]
 pub(crate) fn answer_heard<R: Wait, W: NotedWrite, D: Tape, K: Replaced>(
     rt: &R,
     alloc: Global,
@@ -44,6 +45,7 @@ pub(crate) fn answer_heard<R: Wait, W: NotedWrite, D: Tape, K: Replaced>(
     ensures ends { IfErr result (λ f. EndsIn f feed.old feed.new (W.contents out.old) (W.contents out.new)) }
     ensures day { OnOk result (day.new ≡ later_day day.old feed.old.reading.today) }
     ensures kind { IfErr result IsOfAnswer }
+    ensures said { IfErr result (λ f. IsOfFile f → IsWritten W.failure_count W.contents no_file_line out.old out.new) }
 {
     if let Err(fault) = keep_later(day, feed.today(), entry, seals) {
         say_no_file(out);
@@ -111,6 +113,7 @@ fn tell_heard<W: NotedWrite, D: Tape, K: Replaced>(
 fn unbooked<W: NotedWrite>(out: &mut W, fault: ServeFault) -> StreamFault
     ensures value { result ≡ broken_by fault }
     ensures says { Says fault (W.contents out.old) (W.contents out.new) }
+    ensures said { fault ≡ ServeFault.Device → IsWritten W.failure_count W.contents no_file_line out.old out.new }
 {
     match fault {
         ServeFault::Memory => StreamFault::Memory,
@@ -122,9 +125,10 @@ fn unbooked<W: NotedWrite>(out: &mut W, fault: ServeFault) -> StreamFault
 }
 
 // Says to whoever reads that a file failed, as far as that can be written.
-#[tactic(auto, using(desk_talk::proofs::Broken::took_all))]
+#[tactic(auto, using(desk_talk::proofs::Broken::took_all, desk_talk::proofs::Broken::written_whole, desk_talk::proofs::Broken::not_written))]
 fn say_no_file<W: NotedWrite>(out: &mut W)
-    ensures { TookFront (W.contents out.old) (W.contents out.new) no_file_line }
+    ensures front { TookFront (W.contents out.old) (W.contents out.new) no_file_line }
+    ensures said { IsWritten W.failure_count W.contents no_file_line out.old out.new }
 {
     match put_all(out, b"- FAULT - DEVICE\n") {
         Ok(()) => (),

@@ -6,7 +6,7 @@ use Rattle.std.proofs.KnownBytes.{Appends-nil, Appends-trans}
 use Rattle.std.proofs.lemmas.Bool.Decides.{nat_tests}
 use Rattle.std.proofs.lemmas.List.{take_all, take_more}
 use Rattle.airline_base.specs.Lines.{is_line_feed}
-use Rattle.airline_base.specs.Noting.{TookFront}
+use Rattle.airline_base.specs.Noting.{noted, TookFront}
 use Rattle.desk_answers.specs.FaultLines.{memory_line}
 use Rattle.desk_answers.specs.Hosts.{Attended, IsReady}
 use Rattle.desk_answers.specs.Ready.{IsReadyLine}
@@ -18,7 +18,7 @@ use Rattle.seat_rules.specs.Journal.{calls_of}
 use Rattle.seat_rules.specs.Prefixes.{Begins}
 use Rattle.desk_talk.specs.declared.talk_fault.TalkFault.{TalkFault}
 use Rattle.desk_talk.specs.declared.talk_fault.TalkFault.TheVariants.{Input, Journal, Memory as NoMemory, Output}
-use Rattle.desk_talk.specs.Talks.{held, no_journal_line, BreaksAt, BreaksBehind, BreaksOff, EndsLine, IsAtLine, IsBroken, IsEnd, IsSafe, IsSameHost, IsTold, Reads, TalksOn}
+use Rattle.desk_talk.specs.Talks.{held, no_journal_line, BreaksAt, BreaksBehind, BreaksOff, EndsLine, IsAtLine, IsBroken, IsEnd, IsSafe, IsSameHost, IsTold, IsWritten, Reads, TalksOn}
 use Rattle.desk_talk.proofs.Talking.{talked_more}
 
 -- all of a text is its first bytes
@@ -27,6 +27,16 @@ took_all old new text put = record {
   count = length text;
   appended = subst (λ (t : List ℕ). Appends old new t) (sym (take_all (length text) text (omega arith))) put;
 }
+
+-- a line that was added is written whole
+pub written_whole : {W : Type 0} (failures : W → ℕ) (contents : W → Option (List ℕ)) (line : List ℕ) (old new : W)
+    → Appends (contents old) (contents new) line → IsWritten failures contents line old new
+written_whole failures contents line old new put = inr put
+
+-- and else the writer failed
+pub not_written : {W : Type 0} (failures : W → ℕ) (contents : W → Option (List ℕ)) (line : List ℕ) (old new : W)
+    → failures new ≡ noted (failures old) → IsWritten failures contents line old new
+not_written failures contents line old new failed = inl failed
 
 -- ---- a piece
 

@@ -3,6 +3,7 @@ use Rattle.std.specs.Prelude.{◌≡◌, ◌⊎◌, ℕ, Bool, true, false, Opti
 use Rattle.std.specs.Io.KnownBytes.{Appends, Consumes, IsAtEnd}
 use Rattle.airline_base.specs.Lines.{is_line_feed}
 use Rattle.airline_base.specs.Noting.{TookFront}
+use Rattle.seat_desk.specs.Desk.{HasFailed}
 use Rattle.seat_disk.specs.Growing.{KeepsFront}
 use Rattle.seat_recovery.specs.OpenText.{open_text}
 use Rattle.seat_rules.specs.Journal.{calls_of}
@@ -147,6 +148,10 @@ pub record IsFirstOf (text last : List ℕ) : Type 0 where
 -- what a desk is told where the journal's file failed
 abbrev pub no_journal_line : List ℕ
 no_journal_line = codes "FAULT - DEVICE\n"
+
+-- a line is written whole, but where the writer failed
+abbrev pub IsWritten : {W : Type 0} → (W → ℕ) → (W → Option (List ℕ)) → List ℕ → W → W → Type 0
+IsWritten failures contents line old new = HasFailed failures old new ⊎ Appends (contents old) (contents new) line
 
 -- the first bytes of what this host tells of a line, whose own line, where it asks for seats, is on the disk too
 pub record IsHalfTold {D : Type 0} (old : Attended D) (line : List ℕ) (leaves : List ℕ → Type 0) (last : List ℕ) : Type 0 where

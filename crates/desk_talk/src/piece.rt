@@ -7,7 +7,7 @@ ghost use Rattle.seat_recovery.specs.OpenText.{open_text};
 ghost use Rattle.seat_rules.specs.Prefixes.{Begins};
 ghost use Rattle.desk_answers.specs.FaultLines.{memory_line};
 ghost use Rattle.desk_answers.specs.Hosts.{IsReady};
-ghost use Rattle.desk_talk.specs.Talks.{held, no_journal_line, BreaksAt, BreaksOff, EndsUntold, IsEnd, TalksOn, TellsOf};
+ghost use Rattle.desk_talk.specs.Talks.{held, no_journal_line, BreaksAt, BreaksOff, EndsUntold, IsEnd, IsWritten, TalksOn, TellsOf};
 ghost use Rattle.desk_talk.specs.declared.talk_fault.TalkFault.TheVariants.{Input, Journal, Memory as NoMemory, Output};
 
 use crate::talk_fault::TalkFault;
@@ -108,6 +108,7 @@ fn tell<R: Wait, W: NotedWrite, D: Tape>(
     out: &mut W,
 ) -> Result<bool, TalkFault>
     requires ready { IsReady D.seen D.may_leave D.unsynced host.old.serving }
+    ensures said { IfErr result (λ f. f ≡ Journal → IsWritten W.failure_count W.contents no_journal_line out.old out.new) }
     ensures tells { IfOk result (λ stays. TellsOf D.seen D.may_leave D.unsynced D.failure_count host.old line.now host.new
         stays (W.contents out.old) (W.contents out.new) (W.failure_count out.old) (W.failure_count out.new)) }
     ensures broken { IfErr result (λ f. BreaksAt host.old line.now f (D.may_leave host.new.serving.tape)
@@ -151,10 +152,11 @@ fn tell_wanting<W: NotedWrite, D: Tape>(
 }
 
 // Says that the journal's file failed. Where that cannot be said either, it is the journal all the same.
-#[tactic(auto, using(crate::proofs::Broken::took_all))]
+#[tactic(auto, using(crate::proofs::Broken::took_all, crate::proofs::Broken::written_whole, crate::proofs::Broken::not_written))]
 fn no_journal<W: NotedWrite>(out: &mut W) -> TalkFault
     ensures value { result ≡ Journal }
     ensures says { TookFront (W.contents out.old) (W.contents out.new) no_journal_line }
+    ensures said { IsWritten W.failure_count W.contents no_journal_line out.old out.new }
 {
     match put_all(out, b"FAULT - DEVICE\n") {
         Ok(()) => TalkFault::Journal,

@@ -35,7 +35,7 @@ returns-clause-heard g c =
     c.hear_at-desk.ensures.heard
     (subst (λ (l : List Asked). Plans c.self.inside.flights.now c.self.inside.serving.cap c.args.session c.hear_at-desk.result.0
     (behind c.self.inside.serving.grid c.self.inside.serving.journal l) c.hear_at-desk.result.1 c.plan_of-plan.result) c.as_slice.ensures.value c.plan_of-plan.ensures.plans)
-    c.add.ensures.more refl refl refl refl)
+    c.add.ensures.more refl refl refl refl refl)
 
 pub returns-clause-memory : goal.returns-clause-memory
 returns-clause-memory g c =
@@ -51,4 +51,4 @@ returns-clause-memory g c =
     }) in
     subst (λ (h : Hallful g.row.D.Denot). OnErr c.add.result (IsUnheard h new c.args.session c.args.line.now)) c.self.view_is
     (unheard_if _ new c.args.session c.args.line.now c.hear_at-desk.result.0 c.hear_at-desk.result.1 c.add.result c.hear_at-desk.ensures.heard
-    c.add.ensures.same refl refl refl refl)
+    c.add.ensures.same refl refl refl refl refl)
