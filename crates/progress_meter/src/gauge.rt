@@ -1,6 +1,6 @@
 //! What the inputs of a command have given. Who reads them adds to it, and who says so looks at it, each without waiting for the other.
 ghost use Rattle.std.specs.Prelude.{◌≡◌};
-ghost use Rattle.progress_meter.specs.Reading.{size_of, stage_of};
+ghost use Rattle.progress_meter.specs.Reading.{size_of, stage_of, stand_of};
 
 use crate::stand::{Stage, Stand};
 use std::sync::atomic::{AtomicU64, Ordering};
@@ -61,17 +61,42 @@ impl Gauge {
     pub fn stand(&self, seconds: u64) -> Stand
         ensures { result.seconds ≡ seconds }
     {
-        let read = self.read.load(Ordering::SeqCst);
-        let size = self.size.load(Ordering::SeqCst);
-        let unmeasured = self.unmeasured.load(Ordering::SeqCst);
-        let unread = self.unread.load(Ordering::SeqCst);
-        Stand {
-            stage: stage_of(self.work, unread),
-            read,
-            size: size_of(unmeasured, read, size),
+        let counts = Counts {
+            read: self.read.load(Ordering::SeqCst),
+            size: self.size.load(Ordering::SeqCst),
+            unmeasured: self.unmeasured.load(Ordering::SeqCst),
+            unread: self.unread.load(Ordering::SeqCst),
             lines: self.lines.load(Ordering::SeqCst),
-            seconds,
-        }
+        };
+        stand_of(self.work, &counts, seconds)
+    }
+}
+
+/// What was counted of all inputs.
+#[derive(Clone, Copy)]
+pub struct Counts {
+    /// The bytes that were read.
+    pub read: u64,
+    /// The sizes that are known, together.
+    pub size: u64,
+    /// How many inputs have no size that is known.
+    pub unmeasured: u64,
+    /// How many are not at their ends.
+    pub unread: u64,
+    /// The lines of those that are.
+    pub lines: u64,
+}
+
+/// How far a command is that does this work once all is read, by these counts.
+pub fn stand_of(work: Stage, counts: &Counts, seconds: u64) -> Stand
+    ensures { result ≡ stand_of work counts.now seconds }
+{
+    Stand {
+        stage: stage_of(work, counts.unread),
+        read: counts.read,
+        size: size_of(counts.unmeasured, counts.read, counts.size),
+        lines: counts.lines,
+        seconds,
     }
 }
 

@@ -1,4 +1,5 @@
-//! Worked rows of the definitions, each on a function that does nothing.
+//! Worked rows of the definitions, and their law, each on a function that does nothing.
+ghost use Rattle.progress_meter.specs.Reading.{CutsMakeNoDifference};
 ghost use Rattle.progress_meter.specs.Rows.{Begun, Booked, Lineless, Millions, Replayed, Sized, Unmeasured};
 
 /// What the line of a meter says.
@@ -10,4 +11,10 @@ pub fn lines_read_so()
     ensures lineless { Lineless }
     ensures booked { Booked }
     ensures begun { Begun }
+{}
+
+/// However an input is cut into reads, as many lines ended in it.
+#[tactic(auto, using(crate::proofs::Cuts::cuts_make_no_difference))]
+pub fn cuts_make_no_difference()
+    ensures { CutsMakeNoDifference }
 {}

@@ -3,6 +3,7 @@
 //! It knows counts, a clock and one thread, and nothing of what is read, of what a command does with it, or of terminals.
 #![tactic(auto)]
 
+mod course;
 mod gauge;
 pub mod laws;
 mod meter;
@@ -10,8 +11,9 @@ mod stand;
 mod tally;
 mod text;
 
+pub use course::Lines;
 pub use gauge::Gauge;
 pub use meter::{Meter, Screen};
 pub use stand::{Stage, Stand};
-pub use tally::{Lines, Tally};
+pub use tally::Tally;
 pub use text::{MOST_LINE, MeterText, cleared_text, meter_text};
