@@ -2,9 +2,10 @@
 use Rattle.std.proofs.Common.{◌≡◌, ⊎_elim, inl, inr, ℕ, List, [], ◌∷◌, ◌++◌, Option, Some, None, IfSome, IsTrue, sym, ap, ◌∙◌, append_assoc, append-nil}
 use Rattle.std.specs.Prelude.{◌⊎◌, codes}
 use Rattle.std.specs.Option.{option_or}
+use Rattle.std.specs.Str.{str_eq_ignore_ascii_case}
 use Rattle.seat_explanations.specs.Meanings.{IsMeaning, IsMeaningOf, TellsMeaning}
 use Rattle.seat_explanations.specs.Rows.{Begins, TellsOf, is_of, row_text}
-use Rattle.seat_explanations.specs.Words.{first_word, IsLead, IsPlace, IsPlainOf, IsUnplaced}
+use Rattle.seat_explanations.specs.Words.{first_word, IsLead, IsPlace, IsPlainOf, IsRoomBehind, IsUnplaced}
 use Rattle.seat_explanations.specs.declared.explanations.Explanation.{Explanation}
 use Rattle.seat_explanations.specs.declared.meaning.Meaning.{Meaning}
 
@@ -43,6 +44,10 @@ is_place word number is = record { number = number; is = is }
 
 pub is_lead : (word : List ℕ) (digit : ℕ) → word ≡ digit ∷ [] → IsLead word
 is_lead word digit is = record { session = digit; is = is }
+
+pub is_room : (word rest room : List ℕ) (class : ℕ) → word ≡ class ∷ rest → IsTrue (str_eq_ignore_ascii_case rest room) → room ≡ codes "0C"
+    → IsRoomBehind word room
+is_room word rest room class is same closed = record { class = class; rest = rest; is = is; same = same; closed = closed }
 
 -- the row of a code
 pub told_code : (code : List ℕ) (row : Explanation) (text : List ℕ) → IsTrue (is_of code row) → text ≡ row_text row → TellsMeaning code text

@@ -1,7 +1,8 @@
 -- The words of a line that is given in pieces, as one word or as several.
-use Rattle.std.specs.Prelude.{◌≡◌, ◌⊎◌, ℕ, List, [], ◌∷◌, ◌++◌, ◌==◌, ◌||◌, length, take, nat_eq, if◌then◌else◌, codes}
+use Rattle.std.specs.Prelude.{◌≡◌, ◌⊎◌, ℕ, List, [], ◌∷◌, ◌++◌, ◌==◌, ◌||◌, length, take, nat_eq, if◌then◌else◌, IsTrue, codes}
 use Rattle.std.specs.Cmp.Lexicographic.{pointwise}
 use Rattle.std.specs.List.{slice_split}
+use Rattle.std.specs.Str.{str_eq_ignore_ascii_case}
 
 -- the parts that are not empty
 abbrev pub filled : List (List ℕ) → List (List ℕ)
@@ -43,6 +44,14 @@ pub record IsLead (word : List ℕ) : Type 0 where
 pub record IsUnplaced (line rest : List (List ℕ)) : Type 0 where
   pub either : (rest ≡ line) ⊎ ((ahead : List ℕ) × (IsPlace ahead ⊎ IsLead ahead) × (line ≡ ahead ∷ rest))
 
--- a word to a host behind ?, or what a word begins with, as the code of a reply does ahead of its seats
+-- behind a class no seats and the mark of a closed one, in small letters or capitals
+pub record IsRoomBehind (word room : List ℕ) : Type 0 where
+  pub class : ℕ
+  pub rest : List ℕ
+  pub is : word ≡ class ∷ rest
+  pub same : IsTrue (str_eq_ignore_ascii_case rest room)
+  pub closed : room ≡ codes "0C"
+
+-- a word to a host behind ?, the room of a closed class behind the class, or what a word begins with, as the code of a reply does ahead of its seats
 abbrev pub IsPlainOf : List ℕ → List ℕ → Type 0
-IsPlainOf word plain = (word ≡ 63 ∷ plain) ⊎ (plain ≡ take (length plain) word)
+IsPlainOf word plain = (word ≡ 63 ∷ plain) ⊎ (IsRoomBehind word plain ⊎ (plain ≡ take (length plain) word))

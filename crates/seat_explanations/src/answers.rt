@@ -43,6 +43,17 @@ fn rooms() -> &'static [Explanation] {
     ROOMS
 }
 
+/// The row of the room of a closed class, without the class.
+pub fn closed_row(room: &str) -> Option<&'static Explanation>
+    ensures { IfSome result (λ row. IsTrue (is_of room.now row.now)) }
+{
+    first_named(closed(), room)
+}
+
+fn closed() -> &'static [Explanation] {
+    CLOSED
+}
+
 fn lists() -> &'static [Explanation] {
     LISTS
 }
@@ -130,6 +141,14 @@ const ROOMS: &[Explanation] = &[
         text: "Of loads: the legs above it, the seats held on them of the sum of their highest limits, what part of that is held,\nper mille, the passengers who hold seats there, and those who wait, each booking once.\nOf pickup: the sums of the columns above it.\nOf compare: how many flights are gone, added, have other legs or other limits, and how many are not compared, since only one of the\nseasons has their day; held, waiting: the seats on those with a line.\nOf carry: behind each code how many of the bookings have it, and their seats.",
     },
 ];
+
+// What rooms says of a class that is closed, behind the class.
+const CLOSED: &[Explanation] = &[Explanation {
+    behind: "",
+    code: "0C",
+    numbers: NONE,
+    text: "Of rooms, behind a class, as in Q0C: the class is closed on a leg of the place. Its room is 0, and nothing is sold in it, listed or confirmed from the list until\nthe manager opens it, by a row OPEN. seatdesk why tells of a line that asked for it on which leg it was closed, behind CLOSED.",
+}];
 
 // What waiting and history say of bookings.
 const LISTS: &[Explanation] = &[
@@ -421,13 +440,13 @@ const CARRIED: &[Explanation] = &[
         behind: "",
         code: "TK",
         numbers: NONE,
-        text: "Holds confirmed, and the schedule was changed. Of carry: the seats of the booking are held, and its legs have other stations or local days\nin the new season. The passenger is to be told.",
+        text: "Holds confirmed, and the schedule was changed. Of carry: the seats of the booking are held, and its legs have other stations, another order, other local days\nor other times of departure in the new season, or a row of --protect has it go to another flight, day or class. The passenger is to be told.",
     },
     Explanation {
         behind: "",
         code: "TL",
         numbers: NONE,
-        text: "Has listed, and the schedule was changed. Of carry: the seats of the booking wait, and its legs have other stations or local days in the new season.\nWhere they were held the old segment has HK.",
+        text: "Has listed, and the schedule was changed. Of carry: the seats of the booking wait, and its legs have other stations, another order, other local days\nor other times of departure in the new season, or a row of --protect has it go to another flight, day or class. Where they were held the old segment has HK:\nthey lost their seats. The passenger is to be told.",
     },
     Explanation {
         behind: "",
@@ -439,7 +458,7 @@ const CARRIED: &[Explanation] = &[
         behind: "",
         code: "OVER",
         numbers: NONE,
-        text: "Of carry: on this leg of the new season more seats are held than it has. held: the seats, of: the highest limit. Nothing was written:\nlet the season of --to have the limits, or say --displace, by which the bookings of the highest numbers lose their seats,\nthose whose locators --order names last.",
+        text: "Of carry: on this leg of the new season more seats are held than it has. held: the seats, of: the highest limit. Nothing was written:\nlet the season of --to have the limits, let rows of --protect take the bookings of a place to another flight, or say --displace, by which the bookings\nof the highest numbers lose their seats, those whose locators --order names last.",
     },
 ];
 
@@ -462,6 +481,12 @@ const CHANGES: &[Explanation] = &[
         code: "LEGS",
         numbers: NONE,
         text: "Of compare: the legs of the flight have other stations, another order or other local days in the season of --to.",
+    },
+    Explanation {
+        behind: "",
+        code: "TIMES",
+        numbers: NONE,
+        text: "Of compare: a leg of the flight departs at another local time of day in the season of --to.",
     },
     Explanation {
         behind: "",

@@ -5,9 +5,9 @@ ghost use Rattle.std.specs.List.{slice_split};
 ghost use Rattle.std.specs.String.{string_bytes};
 ghost use Rattle.seat_explanations.specs.Meanings.{IsMeaning, IsMeaningOf};
 ghost use Rattle.seat_explanations.specs.Rows.{Begins, is_of, row_text};
-ghost use Rattle.seat_explanations.specs.Words.{filled, first_word, line_of, unnamed, words_of, IsLead, IsPlace, IsPlainOf, IsUnplaced};
+ghost use Rattle.seat_explanations.specs.Words.{filled, first_word, line_of, unnamed, words_of, IsLead, IsPlace, IsPlainOf, IsRoomBehind, IsUnplaced};
 
-use crate::answers::answer_row;
+use crate::answers::{answer_row, closed_row};
 use crate::asked::asked_row;
 use crate::counted::{DESK, NAMED_KEY, OTHER_KEY};
 use crate::explanations::{
@@ -45,7 +45,7 @@ pub enum Meaning<'a> {
 /// answer begins with says.
 /// Of a fault that a host told a desk it is what FAULT says, and then what the fault says.
 /// The line may be one word or several, as it was printed, without the program's name, the place of a journal or the session that a feed's line
-/// is led by, and in small letters. A reply's code may have its seats behind it, and a word to a host its ? ahead of it.
+/// is led by, and in small letters. A reply's code may have its seats behind it, a word to a host its ? ahead of it, and the room of a closed class the class.
 #[tactic(auto, using(crate::proofs::Rows::meaning_of_rest))]
 pub fn meaning_of<'a>(
     alloc: Global,
@@ -116,21 +116,37 @@ fn other_meaning<'a>(
     }
 }
 
-/// The row of a word to a host, or of a reply's code.
+/// The row of a word to a host, of a reply's code, or of the room of a closed class.
 #[tactic(auto, using(crate::proofs::Rows::either))]
 fn plain_row(plain: &str) -> Option<&'static Explanation>
     ensures { IfSome result (λ row. IsTrue (is_of plain.now row.now)) }
 {
-    asked_row(plain).or(reply_row(plain))
+    asked_row(plain).or(reply_row(plain)).or(closed_row(plain))
 }
 
-/// A word without the ? ahead of it, or without the digits at its end.
+/// A word without the ? ahead of it, the room of a closed class without the class ahead of it, or a word without the digits at its end.
 fn plain_of(word: &str) -> &str
     ensures { IsPlainOf word.now result.now }
 {
-    match word.strip_prefix('?') {
-        Some(plain) => plain,
+    if let Some(plain) = word.strip_prefix('?') {
+        return plain;
+    }
+    match room_of_closed(word) {
+        Some(room) => room,
         None => word.trim_end_matches(|c: char| c.is_ascii_digit()),
+    }
+}
+
+/// What stands behind the class in the room of a class that is closed, as in Q0C.
+#[tactic(auto, using(crate::proofs::Rows::is_room))]
+fn room_of_closed(word: &str) -> Option<&'static str>
+    ensures { IfSome result (λ room. IsRoomBehind word.now room.now) }
+{
+    match word.as_bytes() {
+        [class, room @ ..] if class.is_ascii_alphabetic() && room.eq_ignore_ascii_case(b"0C") => {
+            Some("0C")
+        }
+        _ => None,
     }
 }
 

@@ -41,7 +41,13 @@ pub(crate) const NOTES: &[Explanation] = &[
         behind: "knows",
         code: "note",
         numbers: NONE,
-        text: "The seal of the journal names no run, or none of its first lines, so nothing says which scripts these have: one that was booked is\nbooked once more, and no SEAL again comes. That is so of a journal that recover or serve found without its seal, as a copy to which its seal was not copied,\nof one whose seal was of an older version or did not agree with it when seatdesk seal wrote it anew, of one that a desk alone wrote, and of one that more than 128\nruns wrote, of which a seal names the last.\nAn older seal is put back only ahead of a run: below run this one is made, and an older seal would forget it. seatdesk history and told\nsay whether the journal has what a script asks.",
+        text: "The seal of the journal names no run, or none of its first lines, so nothing says which scripts these have: one that was booked is\nbooked once more, and no SEAL again comes. That is so of a journal that recover or serve found without its seal, as a copy to which its seal was not copied,\nof one whose seal was of an older version or did not agree with it when seatdesk seal wrote it anew, of one that a desk alone wrote, of one that carry wrote,\nwhose older journal knows its own scripts, and of one that more than 128 runs wrote, of which a seal names the last.\nAn older seal is put back only ahead of a run: below run this one is made, and an older seal would forget it. seatdesk history and told\nsay whether the journal has what a script asks.",
+    },
+    Explanation {
+        behind: "way",
+        code: "note",
+        numbers: NONE,
+        text: "Of carry: a file failed behind the mark in JOURNAL's seal, and the mark stands there, or may. So nothing is sold from JOURNAL, and NEW may not be there,\nor its seal may not be whole. Where the disk is right again give the very same carry once more: it finishes what was begun, and writes its report.",
     },
     Explanation {
         behind: "refused",

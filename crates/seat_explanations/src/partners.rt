@@ -49,6 +49,6 @@ pub(crate) const THRESHOLDS: &[Explanation] = &[
         behind: "",
         code: "V3",
         numbers: LINE,
-        text: "Behind the class of the line of a partner's thresholds stand no blank and one to three digits, as 4 of Q 4, and nothing else.",
+        text: "Behind the class of the line of a partner's thresholds stand no blank and one to three digits, as 4 of Q 4, and nothing else.\nIn a journal, with ST behind it, it is no fault: the line closes a class of a leg or opens it, as seatdesk explain ST says.",
     },
 ];

@@ -32,7 +32,7 @@ const REPLIES: &[Explanation] = &[
         behind: "",
         code: "UN",
         numbers: NONE,
-        text: "Unable, the flight does not operate: on its day no flight of its number goes from the one city to the other\nin the days of --first and --days. The day of a request has its year by --today.\nOf carry: the new season has no such flight, or the booking is on a place that no request for its names finds. It is not carried.",
+        text: "Unable, the flight does not operate: on its day no flight of its number goes from the one city to the other\nin the days of --first and --days. The day of a request has its year by --today.\nOf carry: the new season has no such flight, or the booking is on a place that no request for its names finds. With nothing behind it the booking is\nnot carried: a row of --protect says to which flight its place goes, where its names find it; else its passengers are to be booked anew.\nWith a number and a segment behind it the booking goes there by such a row, as the code at the end says.",
     },
     Explanation {
         behind: "",
@@ -50,7 +50,7 @@ const REPLIES: &[Explanation] = &[
         behind: "",
         code: "UC",
         numbers: NONE,
-        text: "Unable, and not waitlisted: the seats of NN do not fit, and a leg lacks the mark N or waiting room;\nor those of SS do not fit, and there is no waiting room; or LL finds no waiting room.\nA class that is closed on a leg has neither room nor waiting room.\nOf carry: the flight no longer has the class on each leg, and the booking is not carried.",
+        text: "Unable, and not waitlisted: the seats of NN do not fit, and a leg lacks the mark N or waiting room;\nor those of SS do not fit, and there is no waiting room; or LL finds no waiting room.\nA class that is closed on a leg has neither room nor waiting room.\nOf carry: the flight no longer has the class on each leg, and the booking is not carried. A row of --protect lets it go to another class.",
     },
     Explanation {
         behind: "",
@@ -74,7 +74,7 @@ const REPLIES: &[Explanation] = &[
         behind: "",
         code: "HX",
         numbers: NONE,
-        text: "Have cancelled: XX has a live booking of the same locator, place and class with so many seats.\nA KL follows for each booking that is confirmed in their place.\nOf carry: for want of room the booking is neither held nor listed on a flight that operates.",
+        text: "Have cancelled: XX has a live booking of the same locator, place and class with so many seats.\nA KL follows for each booking that is confirmed in their place.\nOf carry: for want of room the booking is neither held nor listed on a flight that operates. --order says who keeps a seat first, and rows of\n--protect take the bookings of a place to another flight; else its passengers are to be booked anew.",
     },
     Explanation {
         behind: "",
@@ -86,7 +86,7 @@ const REPLIES: &[Explanation] = &[
         behind: "",
         code: "KL",
         numbers: NONE,
-        text: "An advice: the seats of a booking that waited are confirmed, behind an HL, an HX or the OK of a change\nor of a class that is opened.\nOf carry: the seats of the booking waited, and are held now.",
+        text: "An advice: the seats of a booking that waited are confirmed, behind an HL, an HX or the OK of a change\nor of a class that is opened.\nOf carry: the seats of the booking waited, and are held now. The passenger is to be told.",
     },
     Explanation {
         behind: "",

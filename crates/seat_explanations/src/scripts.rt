@@ -39,7 +39,7 @@ pub(crate) const SCRIPTS: &[Explanation] = &[
         behind: "",
         code: "H2",
         numbers: DESK,
-        text: "A line of the desk begins with ? or @, and is neither a word to the host nor a numbered segment line. The words are:\n? LZ601Q27JUL LHRKEF, which looks at a class, ? 27JUL LHRKEF, which looks at each flight of that day, ?AGAIN 25, which asks\nfor what concerns the session behind line 25 once more, ?HELLO K7M2QP, with which a client begins, and ?BYE, with which\nthe desk goes. Behind the word of ?HELLO the epoch of the journal may stand. A numbered line is @17 LZ601Q27JUL LHRKEF NN2: only a segment line of a message has a number, and of the manager's lines a row.",
+        text: "A line of the desk begins with ? or @, and is neither a word to the host nor a numbered segment line. The words are:\n? LZ601Q27JUL LHRKEF, which looks at a class, ? 27JUL LHRKEF, which looks at each flight of that day, ?AGAIN 25, which asks\nfor what concerns the session behind line 25 once more, ?HELLO K7M2QP, with which a client begins, and ?BYE, with which\nthe desk goes. Behind the word of ?HELLO the epoch of the journal may stand. A manager has ?DAY 2024-06-22 too, on which the lines behind it are read,\nand ?STOP, with which the host ends. A numbered line is @17 LZ601Q27JUL LHRKEF NN2: only a segment line of a message has a number, and of the manager's lines a row.",
     },
     Explanation {
         behind: "",
