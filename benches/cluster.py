@@ -3,8 +3,9 @@
 
     benches/cluster.py [--program FILE] [--lines N] [--gateways N]   N lines in all, 40,000 if left out, of four gateways with two sessions each
 
-Each row is a log of its own: 1, 2, 4 and 8 shards with messages of 16 lines, and 4 shards with messages of 1 and of 256. Its figures are the requests a second, the seconds, and the processor
-seconds of the engine's nodes, the consumers, the hosts and the gateways. Everything runs on this one machine, three nodes of the engine too. It wants Debian's rabbitmq-server and python3-pika.
+Each row is a log of its own: 1, 2, 4 and 8 shards with messages of 16 lines, and 4 shards with messages of 1 and of 256. Its figures are the requests a second, the seconds from the start of the gateways
+to the last answer, how long a shard took for a message, and the processor seconds of the engine's nodes, the consumers, the hosts and the gateways, and of all that ran on the machine. Everything runs on
+this one machine, three nodes of the engine too. It wants Debian's rabbitmq-server and python3-pika.
 """
 import argparse
 import collections
@@ -34,8 +35,10 @@ def script_of(lots, session, count):
 
 
 def seconds_of(room, program):
-    """The processor seconds so far of each kind of process that this bench has started."""
-    spent = collections.Counter()
+    """The processor seconds so far of each kind of process that this bench has started, and those of the machine."""
+    with open("/proc/stat", encoding="ascii") as it:
+        user, nice, system, _, _, *interrupts = it.readline().split()[1:8]
+    spent = collections.Counter({"all": sum(map(int, [user, nice, system, *interrupts])) / TICK})
     for pid in filter(str.isdigit, os.listdir("/proc")):
         try:
             with open(f"/proc/{pid}/cmdline", "rb") as it:
@@ -56,20 +59,20 @@ def measured(cluster, shards, lines, scripts, gateways):
     streams.make(cluster.nodes, log, shards)
     consumers = [f"{cluster.room}/{log}-{shard}" for shard in range(1, shards + 1)]
     for shard, folder in enumerate(consumers, 1):
-        cluster.consumer(log, shard, folder)
+        cluster.consumer(log, shard, shards, folder)
     time.sleep(3)
-    began, ahead = time.monotonic(), seconds_of(cluster.room, cluster.program)
+    began, ahead = time.time(), seconds_of(cluster.room, cluster.program)
     each = 8 // gateways
     names = [f"{log}-gateway-{number}" for number in range(gateways)]
     for number, name in enumerate(names):
         cluster.gateway(log, shards, name, "--lines", str(lines), *(f"{session}={scripts[session]}" for session in range(number * each + 1, number * each + each + 1)))
-    spent, ends = ahead, began
+    spent = ahead
     running = {name: cluster.running["gateway", name][1] for name in names}
     while any(process.poll() is None for process in running.values()):
         now = seconds_of(cluster.room, cluster.program)
         spent = {kind: max(now[kind], spent[kind]) for kind in {*now, *spent}}
-        time.sleep(0.2)
-    ends = time.monotonic()
+        time.sleep(0.1)
+    ends = max(os.stat(f"{cluster.room}/{name}/told").st_mtime for name in names)  # (a gateway waits a second more for what is told behind its last answer)
     for folder in consumers:
         cluster.end(("consumer", folder))
     for name in names:
@@ -94,7 +97,8 @@ def main():
             for shards, lines in ROWS:
                 seconds, spent = measured(cluster, shards, lines, scripts, way.gateways)
                 parts = ", ".join(f"{kind} {spent[kind]:.1f} s" for kind in sorted(spent))
-                print(f"{shards} shards, {lines} lines a message: {way.lines / seconds:,.0f} requests a second, {seconds:.1f} s; {parts}", flush=True)
+                each = seconds * shards * lines / way.lines * 1000
+                print(f"{shards} shards, {lines} lines a message: {way.lines / seconds:,.0f} requests a second, {seconds:.1f} s, {each:.1f} ms a message; {parts}", flush=True)
         finally:
             for _, process in cluster.running.values():
                 process.kill()

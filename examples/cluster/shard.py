@@ -1,9 +1,9 @@
 #!/usr/bin/python3
 """The host of one shard, behind the log: it feeds the shard's stream to `seatdesk serve --feed -`, and puts what the host tells into the stream of replies.
 
-    examples/cluster/shard.py LOG SHARD FOLDER [NODE..] -- COMMAND WORD..
+    examples/cluster/shard.py LOG SHARD/SHARDS FOLDER [NODE..] -- COMMAND WORD..
 
-LOG is the name of its log. COMMAND is what starts the host, as `seatdesk serve --set .. --limits .. --first .. --days .. --journal FOLDER/journal.txt`; `--feed -` is put behind it. FOLDER is this
+LOG is the name of its log, and 3/4 the third shard of four. COMMAND is what starts the host, as `seatdesk serve --set .. --limits .. --first .. --days .. --journal FOLDER/journal.txt`; `--feed -` is put behind it. FOLDER is this
 consumer's own. Start two of them, on two machines: the second waits until the first is gone, and then begins at the place that its own FOLDER has, or at the stream's
 first message. The journal is a function of the stream, so it is the same wherever it is made, and two hosts at once would tell the same.
 
@@ -12,12 +12,12 @@ manager's READY, says that all ahead of it was told. FOLDER/place has such a pla
 """
 import os
 import queue
+import re
 import subprocess
 import sys
-import threading
 import time
 
-from streams import LOST, NODES, Writer, closed, follow, turn
+from streams import LOST, NODES, Writer, closed, fail, follow, name_of, started, turn
 
 SECONDS = 1.0  # between two places that are kept
 
@@ -51,28 +51,26 @@ class Place:
 class Host:
     """A host from a place on, until it ends or the turn is lost."""
 
-    def __init__(self, nodes, log, shard, place, command):
-        self.nodes, self.log, self.shard, self.place = nodes, log, shard, place
+    def __init__(self, nodes, name, place, command):
+        self.nodes, self.name, self.place = nodes, name, place
         self.heads = queue.SimpleQueue()  # the messages that the host was sent, in order
-        self.turn = turn(nodes, f"{log}-turn-{shard}")
+        self.turn = turn(nodes, name("turn"))
         self.said = open(f"{place.file}.said", "w+b")
         words = [*command, "--feed", "-", "--behind", str(place.lines)]
         self.process = subprocess.Popen(words, stdin=subprocess.PIPE, stdout=subprocess.PIPE, stderr=self.said, bufsize=0)
-        self.works = [threading.Thread(target=work, daemon=True) for work in (self.feed, self.hold)]
-        for work in self.works:
-            work.start()
+        self.works = started([self.feed, self.hold])
 
     def feed(self):
         """Sends the host each message from the place on."""
         try:
             if self.place.day:
                 self.send(None, None, f"?DAY {self.place.day}\n".encode())
-            for message in follow(self.nodes, f"{self.log}-lines-{self.shard}", self.place.at):
+            for message in follow(self.nodes, self.name("lines"), self.place.at):
                 if message:
                     self.send(*message)
                 if self.process.poll() is not None:
                     return
-        except (BrokenPipeError, ValueError):
+        except BrokenPipeError:
             return  # the host is gone, and who reads it sees that
 
     def send(self, at, of, text):
@@ -81,16 +79,16 @@ class Host:
             text = text[self.process.stdin.write(text) :]
 
     def hold(self):
-        """Ends the host once somebody else may have its turn."""
+        """Ends the host once somebody else may have its turn. What it has not told the other one tells."""
         try:
             while self.process.poll() is None:
                 self.turn.process_data_events(1)
         except LOST:
-            self.process.stdin.close()
+            self.process.terminate()
 
     def tell(self):
         """Puts what the host tells of each message into the replies, and keeps the places behind which all is there."""
-        replies, told, of, most, rest = Writer(self.nodes, f"{self.log}-replies-{self.shard}"), b"", None, self.place.lines, b""
+        replies, told, of, most, rest = Writer(self.nodes, self.name("replies")), b"", None, self.place.lines, b""
         while piece := os.read(self.process.stdout.fileno(), 1 << 18):
             *lines, rest = (rest + piece).split(b"\n")
             for line in lines:
@@ -120,20 +118,21 @@ class Host:
 
 
 def main(words):
-    if "--" not in words or words.index("--") < 3:
+    ends = words.index("--") if "--" in words else 0
+    part = re.fullmatch(r"(\d+)/(\d+)", words[1]) if ends > 2 else None
+    if not part or not 1 <= int(part[1]) <= int(part[2]):
         sys.exit(__doc__)
-    ends = words.index("--")
     (log, shard, folder), nodes, command = words[:3], words[3:ends] or NODES, words[ends + 1 :]
     os.makedirs(folder, exist_ok=True)
     place = Place(folder)
     while True:
-        host = Host(nodes, log, shard, place, command)
+        host = Host(nodes, lambda kind: name_of(log, kind, *part.groups()), place, command)
         host.tell()
         status, said = host.end()
         if "E2 behind" in said:
             place.begin()  # an older copy of the journal has not come to the place
         elif status == 1:
-            sys.exit(f"shard {shard}: {said}")  # a line of the stream is not the journal's own: it is another shard's
+            fail(f"shard {shard}: {said}")  # a line of the stream is not the journal's own: it is another shard's
         elif status > 0:
             print(f"shard {shard}: {said}", file=sys.stderr)
             time.sleep(1)  # another host has the journal still, or its disk failed
