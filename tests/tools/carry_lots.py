@@ -2,7 +2,7 @@
 
     Draft(routes, rows)             a schedule without its days: `season(first, days)` and `put(folder, ..)` have them
     drafted(lot)                    one by lot
-    turned(lot, draft, days)        another one: flights that are gone, fly less, stop elsewhere or a day later; limits, classes and their order that are others
+    turned(lot, draft, days)        another one: flights that are gone, fly less, stop elsewhere, a day later or at another time; limits, classes and their order that are others
     asked(lot, season, names, n)    a script of n messages
     managed(lot, season)            rows of changes
 """
@@ -19,6 +19,7 @@ CATALOG = {
     "LZ77A": "LHR KEF LHR AMS", "LZ78": "LHR KEF LHR KEF", "LZ5": "LHR JFK LAX+1 SFO",
 }
 STOPS = "OPO MAD FRA BOS".split()
+NOON, TIMES = "1130", ["0000", "0005", "1129", "1130", "1825", "2359", "2400"]  # when each leg departs at first, and when it may in another season
 CLASSES = "FJYMQ"
 EVER = datetime.date(2024, 1, 1), datetime.date(2025, 12, 31)  # the period of what has no other
 LIMITS = [0, 1, 2, 4, 6, 9, 14, 20]
@@ -26,7 +27,7 @@ LIMITS = [0, 1, 2, 4, 6, 9, 14, 20]
 
 @dataclasses.dataclass
 class Route:
-    """An itinerary: its legs have a board point, an off point, and the days by which they depart later than the first."""
+    """An itinerary: its legs have a board point, an off point, the days by which they depart later than the first, and a local time of departure."""
 
     name: str
     legs: list
@@ -38,20 +39,20 @@ class Route:
         return self.first <= day <= self.last and str(day.isoweekday()) in self.days
 
     def flown(self, day):
-        return self.name, [(board, day + datetime.timedelta(shift), off) for board, off, shift in self.legs]
+        return self.name, [(board, day + datetime.timedelta(shift), off, time) for board, off, shift, time in self.legs]
 
 
 def route_of(name, stations):
     points = [it.partition("+") for it in stations.split()]
-    return Route(name, [(here[0], there[0], int(here[2] or 0)) for here, there in zip(points, points[1:])])
+    return Route(name, [(here[0], there[0], int(here[2] or 0), NOON) for here, there in zip(points, points[1:])])
 
 
 def leg_record(route, variation, at):
     number, suffix = (route.name[2:-1], route.name[-1]) if route.name[-1].isalpha() else (route.name[2:], " ")
-    board, off, shift = route.legs[at]
+    board, off, shift, time = route.legs[at]
     days = "".join(it if it in route.days else " " for it in "1234567")
     period = day_text(route.first) + day_text(route.last)
-    return f"3{suffix}LZ {number:>4}{variation:02d}{at + 1:02d}J{period}{days} {board}11301130+01003 {off}14301430+01003 77WJYMQ".ljust(192) + str(shift or " ")
+    return f"3{suffix}LZ {number:>4}{variation:02d}{at + 1:02d}J{period}{days} {board}1130{time}+01003 {off}14301430+01003 77WJYMQ".ljust(192) + str(shift or " ")
 
 
 class Draft:
@@ -98,7 +99,7 @@ def ladder(lot, letters=None):
 def rows_for(lot, routes):
     """A row for most legs, and for some another one of a few days."""
     rows = []
-    for name, pair in dict.fromkeys((route.name, board + off) for route in routes for board, off, _ in route.legs):
+    for name, pair in dict.fromkeys((route.name, board + off) for route in routes for board, off, *_ in route.legs):
         if lot.random() < 0.95:
             rows.append(Row(name, *EVER, pair, ladder(lot, lot.sample(CLASSES, lot.randint(2, 5)))))
         if lot.random() < 0.2:
@@ -118,33 +119,39 @@ def drafted(lot):
 def stopping(lot, legs):
     """The legs with one more station on the way."""
     at, stop = lot.randrange(len(legs)), lot.choice(STOPS)
-    board, off, shift = legs[at]
-    return [*legs[:at], (board, stop, shift), (stop, off, shift), *legs[at + 1 :]]
+    board, off, shift, time = legs[at]
+    return [*legs[:at], (board, stop, shift, time), (stop, off, shift, time), *legs[at + 1 :]]
 
 
 def elsewhere(lot, legs):
     """The legs with another end, or another beginning."""
     if lot.random() < 0.5:
-        return [*legs[:-1], (legs[-1][0], lot.choice(STOPS), legs[-1][2])]
+        return [*legs[:-1], (legs[-1][0], lot.choice(STOPS), *legs[-1][2:])]
     return [(lot.choice(STOPS), *legs[0][1:]), *legs[1:]]
 
 
 def later(lot, legs):
     """The legs, the last ones of which depart a day later."""
     at = lot.randrange(len(legs))
-    return [(board, off, shift + (leg >= at and at > 0)) for leg, (board, off, shift) in enumerate(legs)]
+    return [(board, off, shift + (leg >= at and at > 0), time) for leg, (board, off, shift, time) in enumerate(legs)]
+
+
+def retimed(lot, legs):
+    """The legs, one of which departs at another time of the same day, or at the same."""
+    at = lot.randrange(len(legs))
+    return [*legs[:at], (*legs[at][:3], lot.choice(TIMES)), *legs[at + 1 :]]
 
 
 def routes_turned(lot, route, middle):
     """What another season has of a route: a list, which is empty where it is gone."""
-    kind = lot.choice(["kept", "kept", "kept", "gone", "fewer", "stopping", "elsewhere", "later", "split"])
-    turn = {"stopping": stopping, "elsewhere": elsewhere, "later": later}.get(kind)
+    kind = lot.choice(["kept", "kept", "kept", "gone", "fewer", "stopping", "elsewhere", "later", "retimed", "split"])
+    turn = {"stopping": stopping, "elsewhere": elsewhere, "later": later, "retimed": retimed}.get(kind)
     if kind == "gone":
         return []
     if kind == "fewer":
         return [dataclasses.replace(route, days="".join(it for it in route.days if lot.random() < 0.6) or route.days[:1])]
     if kind == "split" and route.first <= middle < route.last:
-        behind = dataclasses.replace(route, first=middle + datetime.timedelta(1), legs=lot.choice([stopping, elsewhere, later])(lot, route.legs))
+        behind = dataclasses.replace(route, first=middle + datetime.timedelta(1), legs=lot.choice([stopping, elsewhere, later, retimed])(lot, route.legs))
         return [dataclasses.replace(route, last=middle), behind]
     return [dataclasses.replace(route, legs=turn(lot, route.legs) if turn else route.legs)]
 

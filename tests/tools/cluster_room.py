@@ -29,9 +29,9 @@ class Cluster:
         with open(f"{self.room}/said", "ab") as said:
             self.running[name] = words, subprocess.Popen(words, env=self.env, stdin=subprocess.DEVNULL, stdout=said, stderr=said)
 
-    def consumer(self, log, shard, folder):
+    def consumer(self, log, shard, shards, folder):
         host = [self.program, "serve", *OVER, "--journal", f"{folder}/journal.txt"]
-        self.start(("consumer", folder), [f"{CLUSTER}/shard.py", log, str(shard), folder, *self.nodes, "--", *host])
+        self.start(("consumer", folder), [f"{CLUSTER}/shard.py", log, f"{shard}/{shards}", folder, *self.nodes, "--", *host])
 
     def gateway(self, log, shards, name, *words):
         way = [log, str(shards), DAY, f"{self.room}/{name}", "--program", self.program, "--nodes", ",".join(self.nodes)]
@@ -40,8 +40,17 @@ class Cluster:
     def end(self, name):
         """The process is gone, and the host behind it, which ends with its input."""
         process = self.running.pop(name)[1]
+        hosts = self.hosts([process])
         process.send_signal(signal.SIGTERM)
         process.wait()
+        while any(self.is_host(pid) for pid in hosts):
+            time.sleep(0.1)
+
+    def is_host(self, pid):
+        return program_of(pid) == os.path.realpath(self.program)
+
+    def hosts(self, processes):
+        return [pid for pid in children([process.pid for process in processes]) if self.is_host(pid)]
 
     def kill(self):
         """Kills one of what may die, and starts it again."""
@@ -52,7 +61,7 @@ class Cluster:
             self.engine("start", node)
             return f"node {node}"
         if kind == "host":
-            hosts = [pid for pid in children([process.pid for _, process in self.running.values()]) if program_of(pid) == os.path.realpath(self.program)]
+            hosts = self.hosts([process for _, process in self.running.values()])
             if hosts:
                 os.kill(self.lots.choice(hosts), signal.SIGKILL)
             return kind
