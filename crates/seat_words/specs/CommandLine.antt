@@ -248,7 +248,7 @@ compare_app = with_rule (with_rule (with_rule (new_app (codes "compare"))
     (optional_value (codes "journal"))
 
 unfoldable pub carry_app : App
-carry_app = with_rule (with_rule (with_rule (with_rule (with_rule (with_rule (with_rule (with_rule (with_rule (with_rule (with_rule (with_rule (with_rule (new_app (codes "carry"))
+carry_app = with_rule (with_rule (with_rule (with_rule (with_rule (with_rule (with_rule (with_rule (with_rule (with_rule (with_rule (with_rule (with_rule (with_rule (new_app (codes "carry"))
     (required_option (codes "from")))
     (required_option (codes "to")))
     (required_option (codes "today")))
@@ -261,7 +261,8 @@ carry_app = with_rule (with_rule (with_rule (with_rule (with_rule (with_rule (wi
     (flag (codes "dry-run")))
     (flag (codes "csv")))
     (flag (codes "json")))
-    (required_value (codes "carried"))
+    (required_value (codes "carried")))
+    (optional_values (codes "others"))
 
 unfoldable pub changes_app : App
 changes_app = with_rule (with_rule (with_rule (with_rule (with_rule (with_rule (horizon_app (codes "changes"))

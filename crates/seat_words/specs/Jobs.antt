@@ -204,6 +204,7 @@ IsCarry rows asked = Has rows (codes "from") asked.from.now
     × HasFlag rows (codes "dry-run") asked.dry_run
     × IsShaped rows asked.shape
     × Has rows (codes "carried") asked.journal.now
+    × HasAny rows (codes "others") asked.others
 
 abbrev pub IsChanges : List Row → ChangesJob → Type 0
 IsChanges rows asked = IsOver rows asked.over

@@ -63,7 +63,7 @@ pub enum Job<'a> {
     /// `seatdesk compare --from SEASON --to SEASON [JOURNAL]`
     Compare(CompareJob<'a>),
     /// `seatdesk carry --from SEASON --to SEASON --today DATE --journal NEW [--protect FILE] [--order FILE] [--displace] [--fresh-limits]
-    /// [--anew] [--dry-run] [--csv] [--json] JOURNAL`
+    /// [--anew] [--dry-run] [--csv] [--json] JOURNAL [OTHER...]`
     Carry(CarryJob<'a>),
     /// `seatdesk changes` over a horizon `--to WANTED [--flight FLIGHT] [--day DATE] [--pair PAIR] [--open] JOURNAL`
     Changes(ChangesJob<'a>),
@@ -219,7 +219,7 @@ fn asking_job<'a>(
         "avs" => Ok(Job::Avs(avs_asked(matches))),
         "reconcile" => Ok(Job::Reconcile(reconcile_asked(matches))),
         "compare" => Ok(Job::Compare(compare_asked(matches))),
-        "carry" => Ok(Job::Carry(carry_asked(matches))),
+        "carry" => Ok(Job::Carry(carry_asked(alloc, matches)?)),
         "changes" => Ok(Job::Changes(changes_asked(matches))),
         _ => journal_job(alloc, name, matches),
     }
@@ -465,11 +465,11 @@ fn compare_asked<'a>(matches: &ArgMatches<'a>) -> CompareJob<'a>
     }
 }
 
-fn carry_asked<'a>(matches: &ArgMatches<'a>) -> CarryJob<'a>
+fn carry_asked<'a>(alloc: Global, matches: &ArgMatches<'a>) -> Result<CarryJob<'a>, AllocError>
     requires { is_complete (codes "carry", rows_of (found_of matches.now)) ≡ true }
-    ensures { IsCarry (rows_of (found_of matches.now)) result }
+    ensures { IfOk result (IsCarry (rows_of (found_of matches.now))) }
 {
-    CarryJob {
+    Ok(CarryJob {
         from: value_of(matches, "from"),
         to: value_of(matches, "to"),
         today: value_of(matches, "today"),
@@ -482,7 +482,8 @@ fn carry_asked<'a>(matches: &ArgMatches<'a>) -> CarryJob<'a>
         dry_run: flag_of(matches, "dry-run"),
         shape: shape_of(matches),
         journal: value_of(matches, "carried"),
-    }
+        others: any_values_of(alloc, matches, "others")?,
+    })
 }
 
 fn changes_asked<'a>(matches: &ArgMatches<'a>) -> ChangesJob<'a>

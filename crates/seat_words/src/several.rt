@@ -36,7 +36,8 @@ impl<'a> Several<'a> {
         self.values.is_empty()
     }
 
-    pub(crate) fn of(alloc: Global, values: &[&'a str]) -> Result<Self, AllocError>
+    /// These values.
+    pub fn of(alloc: Global, values: &[&'a str]) -> Result<Self, AllocError>
         ensures { IfOk result (λ s. s ≡ texts values.now) }
     {
         let mut kept = Vec::new(alloc);

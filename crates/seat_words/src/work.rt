@@ -191,8 +191,8 @@ pub struct CompareJob<'a> {
     pub journal: Option<&'a str>,
 }
 
-/// What `seatdesk carry` asks for: two season files, and the journal of the first, whose live bookings a new one of the second is to have.
-#[derive(Clone, Copy)]
+/// What `seatdesk carry` asks for: two season files, and the journals of the first, whose live bookings a new one of the second is to have.
+#[derive(Drop)]
 pub struct CarryJob<'a> {
     pub from: &'a str,
     pub to: &'a str,
@@ -216,6 +216,8 @@ pub struct CarryJob<'a> {
     pub shape: Shape,
     /// The journal that is carried.
     pub journal: &'a str,
+    /// The journals that are carried with it, none of which has a line of a flight of another: none or more.
+    pub others: Several<'a>,
 }
 
 /// What `seatdesk changes` asks for.

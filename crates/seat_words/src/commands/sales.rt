@@ -69,7 +69,7 @@ const CARRIED_DAY_HELP: &str =
     "The day of the carry, as 2024-06-01, from 2000 to 2099; a booking that departed before it is not carried";
 
 const NEW_HELP: &str =
-    "The journal of the season of --to, which is made (a file); it may not be JOURNAL";
+    "The journal of the season of --to, which is made (a file); it may be no JOURNAL";
 
 const PROTECT_HELP: &str =
     "Rows that say to which flights the bookings of others go, as LZ601 27JUL24 LHRKEF LZ603 28JUL24 Q=M (a file)";
@@ -90,6 +90,9 @@ const DRY_RUN_HELP: &str = "Writes the report alone: neither NEW nor the seal of
 
 const CARRIED_HELP: &str =
     "The journal of the season of --from, whose live bookings are carried: a file that run or serve wrote, which is locked";
+
+const OTHERS_CARRIED_HELP: &str =
+    "Journals of other hosts over that season, whose live bookings are carried behind those of JOURNAL: no two journals may have a line of one flight";
 
 const RUN: &[Argument] = &[
     Optional("after", "JOURNAL", AFTER_HELP),
@@ -185,6 +188,7 @@ const CARRY: &[Argument] = &[
     Flag("csv", CSV_HELP),
     Flag("json", JSON_HELP),
     WantedWord("carried", "JOURNAL", CARRIED_HELP),
+    Words("others", "OTHER", OTHERS_CARRIED_HELP),
 ];
 
 pub(super) fn carry_command<'a>(alloc: Global) -> Result<Command<'a>, AllocError>
@@ -193,8 +197,8 @@ pub(super) fn carry_command<'a>(alloc: Global) -> Result<Command<'a>, AllocError
     let carry = named_command(
         alloc,
         "carry",
-        "Carries the live bookings of a journal to another season, into a new journal, and reports on each of them",
-        "JOURNAL is sold from no more: its seal says that it was carried, ahead of the first byte of NEW. A carry that was killed between the\ntwo is finished by the same command, given again. Where a leg of the new season has fewer seats than are held no file is written, and\na line of standard output, OVER, says so of each such leg.\n\nExample: seatdesk carry --from examples/summer.toml --to examples/august.toml --today 2024-07-20 --journal august.txt journal.txt\n\nThe report alone, of who would lose seats: seatdesk carry --from examples/summer.toml --to examples/august.toml --today 2024-07-20 --journal august.txt --displace --dry-run journal.txt\n\nOthers go to another flight, and some keep their seats first: seatdesk carry --from examples/summer.toml --to examples/august.toml --today 2024-07-20 --journal august.txt --protect protected.txt --order first.txt --displace journal.txt",
+        "Carries the live bookings of a journal, or of several, to another season, into a new journal, and reports on each of them",
+        "JOURNAL is sold from no more: its seal says that it was carried, ahead of the first byte of NEW. A carry that was killed between the\ntwo is finished by the same command, given again. Where a leg of the new season has fewer seats than are held no file is written, and\na line of standard output, OVER, says so of each such leg.\n\nExample: seatdesk carry --from examples/summer.toml --to examples/august.toml --today 2024-07-20 --journal august.txt journal.txt\n\nThe report alone, of who would lose seats: seatdesk carry --from examples/summer.toml --to examples/august.toml --today 2024-07-20 --journal august.txt --displace --dry-run journal.txt\n\nOthers go to another flight, and some keep their seats first: seatdesk carry --from examples/summer.toml --to examples/august.toml --today 2024-07-20 --journal august.txt --protect protected.txt --order first.txt --displace journal.txt\n\nJournals of hosts that have different flights, in this order: seatdesk carry --from examples/summer.toml --to examples/august.toml --today 2024-07-20 --journal august.txt journal-1.txt journal-2.txt",
     );
     with_arguments(alloc, Ok(carry), CARRY)
 }
