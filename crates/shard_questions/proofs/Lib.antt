@@ -1,5 +1,6 @@
 mod Asking
 mod Carrying
+mod Counting
 mod Grounds
 mod Joined
 mod Steps

@@ -7,3 +7,4 @@ mod joining;
 pub mod laws;
 
 pub use answering::answer_shards;
+pub use joining::{JoinedCore, inventory_together};
