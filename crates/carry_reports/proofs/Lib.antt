@@ -1,3 +1,5 @@
+mod CodeSums
 mod FateTurns
 mod Lining
+mod Numbering
 mod Summing

@@ -13,6 +13,7 @@ use Rattle.seat_moving.specs.Moving.{name_of}
 use Rattle.seat_rules.specs.declared.booking.Booking.{Booking}
 use Rattle.carry_reports.specs.Codes.{asked_code, code_of, word_text}
 use Rattle.carry_reports.specs.Lines.{IsAsked, IsAskedPut, IsFatedLine, IsNew, IsNewBy, IsNewPut, IsOld, IsOldPut, IsSegmentPut, front_text, in_class, segment_of}
+use Rattle.carry_reports.specs.Numbers.{number_text}
 use Rattle.carry_reports.specs.Reports.{IsReport}
 use Rattle.carry_reports.specs.Sums.{sums_text}
 use Rattle.carry_reports.specs.declared.fating.Asked.{Asked as AskedFor}
@@ -37,17 +38,17 @@ segment_put name w b s code old new part some same line written =
 five : (o a b c d e : List ℕ) → ((((o ++ a) ++ b) ++ c) ++ d) ++ e ≡ o ++ (a ++ b ++ c ++ d ++ e)
 five o a b c d e = simp append_assoc
 
-pub old_put : (olds : List Flown) (b : Booking) (n : ℕ) (locator old t1 t2 t3 t4 new code : List ℕ) (name : Option Wanted)
-    → t1 ≡ old ++ decimal n → n ≡ b.number → t2 ≡ t1 ++ 32 ∷ [] → t3 ≡ t2 ++ locator → locator ≡ b.locator → t4 ≡ t3 ++ 32 ∷ []
-    → code ≡ status_code b.status → name ≡ name_of olds b.place → IsSegmentPut name b code t4 new → IsOldPut olds b old new
-old_put olds b n locator old t1 t2 t3 t4 new code name e1 number e2 e3 own e4 coded named put =
+pub old_put : (counts : List ℕ) (olds : List Flown) (b : Booking) (n : ℕ) (locator old t1 t2 t3 t4 new code : List ℕ) (name : Option Wanted)
+    → t1 ≡ old ++ number_text counts n → n ≡ b.number → t2 ≡ t1 ++ 32 ∷ [] → t3 ≡ t2 ++ locator → locator ≡ b.locator → t4 ≡ t3 ++ 32 ∷ []
+    → code ≡ status_code b.status → name ≡ name_of olds b.place → IsSegmentPut name b code t4 new → IsOldPut counts olds b old new
+old_put counts olds b n locator old t1 t2 t3 t4 new code name e1 number e2 e3 own e4 coded named put =
     let same : IsSegmentPut (name_of olds b.place) b (status_code b.status) t4 new =
     subst (λ (o : Option Wanted). IsSegmentPut o b (status_code b.status) t4 new) named
     (subst (λ (k : List ℕ). IsSegmentPut name b k t4 new) coded put) in
     record {
-      part = decimal b.number ++ codes " " ++ b.locator ++ codes " " ++ same.part;
+      part = number_text counts b.number ++ codes " " ++ b.locator ++ codes " " ++ same.part;
       is_old = record { segment = same.part; is_segment = same.is_segment; written = refl };
-      written = rw (same.written, e4, e3, e2, e1, number, own) (five old (decimal b.number) (codes " ") b.locator (codes " ") same.part);
+      written = rw (same.written, e4, e3, e2, e1, number, own) (five old (number_text counts b.number) (codes " ") b.locator (codes " ") same.part);
     }
 
 -- ---- what it is
@@ -103,20 +104,20 @@ new_put news f a b old new fate same put =
 
 -- ---- the line
 
-pub line_put : (olds news : List Flown) (f : Fated) (old t1 t2 t3 new : List ℕ) → IsOldPut olds f.booking old t1 → t2 ≡ t1 ++ 32 ∷ 45 ∷ 62 ∷ 32 ∷ []
-    → IsNewPut news f t2 t3 → new ≡ t3 ++ 10 ∷ [] → IsPut (λ n. IsFatedLine olds news) 0 (f ∷ []) old new
-line_put olds news f old t1 t2 t3 new was arrow is feed =
+pub line_put : (counts : List ℕ) (olds news : List Flown) (f : Fated) (old t1 t2 t3 new : List ℕ) → IsOldPut counts olds f.booking old t1 → t2 ≡ t1 ++ 32 ∷ 45 ∷ 62 ∷ 32 ∷ []
+    → IsNewPut news f t2 t3 → new ≡ t3 ++ 10 ∷ [] → IsPut (λ n. IsFatedLine counts olds news) 0 (f ∷ []) old new
+line_put counts olds news f old t1 t2 t3 new was arrow is feed =
     let line : List ℕ = was.part ++ codes " -> " ++ is.part ++ codes "\n" in
-    let is_line : IsFatedLine olds news f line =
+    let is_line : IsFatedLine counts olds news f line =
     record { old = was.part; new = is.part; is_old = was.is_old; is_new = is.is_new; written = refl } in
-    one_line (IsFatedLine olds news) f old new line is_line
+    one_line (IsFatedLine counts olds news) f old new line is_line
     (rw (feed, is.written, arrow, was.written) (four old was.part (codes " -> ") is.part (codes "\n")))
 
 -- ---- the whole
 
-pub report_of : (olds news : List Flown) (all : List Fated) (none lines text : List ℕ) → none ≡ []
-    → IsPut (λ n. IsFatedLine olds news) 0 all none lines → text ≡ lines ++ sums_text all → IsReport olds news all text
-report_of olds news all none lines text empty put sums = record {
+pub report_of : (counts : List ℕ) (olds news : List Flown) (all : List Fated) (none lines text : List ℕ) → none ≡ []
+    → IsPut (λ n. IsFatedLine counts olds news) 0 all none lines → text ≡ lines ++ sums_text all → IsReport counts olds news all text
+report_of counts olds news all none lines text empty put sums = record {
   lines = put.part;
   are_lines = put.is_text;
   written = sums ∙ ap (λ (l : List ℕ). l ++ sums_text all) (put.written ∙ ap (λ (l : List ℕ). l ++ put.part) empty);

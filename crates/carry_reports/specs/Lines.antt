@@ -8,6 +8,7 @@ use Rattle.seat_lists.specs.Named.{status_code}
 use Rattle.seat_moving.specs.Moving.{name_of}
 use Rattle.seat_rules.specs.declared.booking.Booking.{Booking}
 use Rattle.carry_reports.specs.Codes.{asked_code, code_of, word_text}
+use Rattle.carry_reports.specs.Numbers.{number_text}
 use Rattle.carry_reports.specs.declared.fating.Asked.{Asked as AskedFor}
 use Rattle.carry_reports.specs.declared.fating.Fate.{Fate}
 use Rattle.carry_reports.specs.declared.fating.Fate.TheVariants.{Departed, Unserved, Unsold, Asked}
@@ -32,11 +33,11 @@ abbrev pub IsSegment : Option Wanted → Booking → List ℕ → List ℕ → T
 IsSegment None b code text = text ≡ codes "-"
 IsSegment (Some name) b code text = IsPlainLine (segment_of name b code) text
 
--- its old number, its locator, and its segment with HK where it held or HL where it waited
-pub record IsOld (olds : List Flown) (b : Booking) (text : List ℕ) : Type 0 where
+-- its old number, of journals that have so many lines, its locator, and its segment with HK where it held or HL where it waited
+pub record IsOld (counts : List ℕ) (olds : List Flown) (b : Booking) (text : List ℕ) : Type 0 where
   pub segment : List ℕ
   pub is_segment : IsSegment (name_of olds b.place) b (status_code b.status) segment
-  pub written : text ≡ decimal b.number ++ codes " " ++ b.locator ++ codes " " ++ segment
+  pub written : text ≡ number_text counts b.number ++ codes " " ++ b.locator ++ codes " " ++ segment
 
 abbrev pub in_class : ℕ → Booking → Booking
 in_class class b = record b { class = class }
@@ -63,10 +64,10 @@ abbrev pub IsNew : List Flown → Fated → List ℕ → Type 0
 IsNew news f text = IsNewBy f.fate news f.booking (word_text (code_of f)) text
 
 -- what it was, an arrow, what it is, and LF
-pub record IsFatedLine (olds news : List Flown) (f : Fated) (line : List ℕ) : Type 0 where
+pub record IsFatedLine (counts : List ℕ) (olds news : List Flown) (f : Fated) (line : List ℕ) : Type 0 where
   pub old : List ℕ
   pub new : List ℕ
-  pub is_old : IsOld olds f.booking old
+  pub is_old : IsOld counts olds f.booking old
   pub is_new : IsNew news f new
   pub written : line ≡ old ++ codes " -> " ++ new ++ codes "\n"
 
@@ -77,9 +78,9 @@ pub record IsSegmentPut (name : Option Wanted) (b : Booking) (code old new : Lis
   pub is_segment : IsSegment name b code part
   pub written : new ≡ old ++ part
 
-pub record IsOldPut (olds : List Flown) (b : Booking) (old new : List ℕ) : Type 0 where
+pub record IsOldPut (counts : List ℕ) (olds : List Flown) (b : Booking) (old new : List ℕ) : Type 0 where
   pub part : List ℕ
-  pub is_old : IsOld olds b part
+  pub is_old : IsOld counts olds b part
   pub written : new ≡ old ++ part
 
 pub record IsAskedPut (news : List Flown) (b : Booking) (a : AskedFor) (old new : List ℕ) : Type 0 where

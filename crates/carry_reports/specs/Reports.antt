@@ -6,8 +6,8 @@ use Rattle.carry_reports.specs.Lines.{IsFatedLine}
 use Rattle.carry_reports.specs.Sums.{sums_text}
 use Rattle.carry_reports.specs.declared.fating.Fated.{Fated}
 
--- a line for each live booking, and one of sums
-pub record IsReport (olds news : List Flown) (all : List Fated) (text : List ℕ) : Type 0 where
+-- a line for each live booking of journals that have so many lines, of none of which is said where there is one, and one line of sums
+pub record IsReport (counts : List ℕ) (olds news : List Flown) (all : List Fated) (text : List ℕ) : Type 0 where
   pub lines : List ℕ
-  pub are_lines : IsText (λ n. IsFatedLine olds news) 0 all lines
+  pub are_lines : IsText (λ n. IsFatedLine counts olds news) 0 all lines
   pub written : text ≡ lines ++ sums_text all

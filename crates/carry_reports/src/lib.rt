@@ -3,11 +3,14 @@
 #![tactic(auto)]
 
 mod codes;
+mod counting;
 mod fating;
 mod line;
+mod numbers;
 mod reporting;
 mod sums;
 
 pub use codes::code_of;
 pub use fating::{Asked, Carried, Fate, Fated, Outcome, fates};
+pub use numbers::{OwnNumber, own_number};
 pub use reporting::report;

@@ -7,6 +7,7 @@ ghost use Rattle.carry_reports.specs.Lines.{IsAskedPut, IsFatedLine, IsNewPut, I
 
 use crate::codes::{asked_code, code_of};
 use crate::fating::{Asked, Fate, Fated};
+use crate::numbers::put_own;
 use airimp_lines::{Segment, reply_text};
 use airline_base::{Class, Code, Place};
 use seat_desk::{put, put_number};
@@ -16,17 +17,18 @@ use seat_rules::Booking;
 use ssim_flights::{Flights, Wanted};
 use std::alloc::AllocError;
 
-/// Adds a line for each of these live bookings, which were on the flights of the old season.
+/// Adds a line for each of these live bookings, which were on the flights of the old season, in journals that have so many lines.
 pub(crate) fn put_lines(
     text: &mut Vec<u8>,
+    counts: &[u32],
     olds: &Flights,
     news: &Flights,
     all: &[Fated],
 ) -> Result<(), AllocError>
-    ensures { OnOk result (IsPut (λ n. IsFatedLine olds.now news.now) 0 all.now text.old.items text.new.items) }
+    ensures { OnOk result (IsPut (λ n. IsFatedLine counts.now olds.now news.now) 0 all.now text.old.items text.new.items) }
 {
     for i in 0..all.len() {
-        put_line(text, olds, news, &all[i])?;
+        put_line(text, counts, olds, news, &all[i])?;
     }
     Ok(())
 }
@@ -34,13 +36,14 @@ pub(crate) fn put_lines(
 /// Adds the line of a live booking: its old number, its locator and its old segment, an arrow, and its new number and segment or why it has none.
 fn put_line(
     text: &mut Vec<u8>,
+    counts: &[u32],
     olds: &Flights,
     news: &Flights,
     fated: &Fated,
 ) -> Result<(), AllocError>
-    ensures { OnOk result (IsPut (λ n. IsFatedLine olds.now news.now) 0 (fated.now ∷ []) text.old.items text.new.items) }
+    ensures { OnOk result (IsPut (λ n. IsFatedLine counts.now olds.now news.now) 0 (fated.now ∷ []) text.old.items text.new.items) }
 {
-    put_old(text, olds, &fated.booking)?;
+    put_old(text, counts, olds, &fated.booking)?;
     put(text, b" -> ")?;
     put_new(text, news, fated)?;
     put(text, b"\n")?;
@@ -48,10 +51,15 @@ fn put_line(
 }
 
 #[tactic(auto, using(crate::proofs::Lining::old_put))]
-fn put_old(text: &mut Vec<u8>, olds: &Flights, booking: &Booking) -> Result<(), AllocError>
-    ensures { OnOk result (IsOldPut olds.now booking.now text.old.items text.new.items) }
+fn put_old(
+    text: &mut Vec<u8>,
+    counts: &[u32],
+    olds: &Flights,
+    booking: &Booking,
+) -> Result<(), AllocError>
+    ensures { OnOk result (IsOldPut counts.now olds.now booking.now text.old.items text.new.items) }
 {
-    put_number(text, u64::from(booking.number))?;
+    put_own(text, counts, booking.number)?;
     put(text, b" ")?;
     put(text, &booking.locator.characters())?;
     put(text, b" ")?;

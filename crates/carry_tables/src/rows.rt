@@ -3,11 +3,15 @@
 ghost use Rattle.std.specs.Prelude.{◌≡◌, OnOk, map};
 ghost use Rattle.seat_tables.specs.Rows.{rows_from};
 ghost use Rattle.seat_tables.specs.Sheets.{ArePut, IsReady};
-ghost use Rattle.carry_tables.specs.FateRows.{carry_names, code_cell, fate_row, fate_rows, new_side, old_side, outcome_cell, row_of};
+ghost use Rattle.seat_lists.specs.Named.{status_code};
+ghost use Rattle.seat_moving.specs.Moving.{name_of};
+ghost use Rattle.seat_tables.specs.declared.cell.Cell.TheVariants.{Word};
+ghost use Rattle.carry_tables.specs.FateRows.{all_names, carry_names, code_cell, fate_rows, new_side, outcome_cell, row_of, shown, whole_row};
+ghost use Rattle.carry_tables.specs.Sides.{side_of};
 
 use crate::sides::{Side, no_side, side_of};
 use airline_base::{Code, Locator};
-use carry_reports::{Fate, Fated, Outcome, code_of};
+use carry_reports::{Fate, Fated, Outcome, code_of, own_number};
 use seat_lists::status_code;
 use seat_moving::name_of;
 use seat_rules::Booking;
@@ -16,10 +20,11 @@ use ssim_flights::Flights;
 use std::alloc::{AllocError, Global};
 
 /// The names of the columns.
-pub(crate) fn names() -> [&'static str; 18]
-    ensures { map (λ n. n.now) result ≡ carry_names }
+pub(crate) fn names() -> [&'static str; 19]
+    ensures { map (λ n. n.now) result ≡ all_names }
 {
     [
+        "journal",
         "number",
         "locator",
         "designator",
@@ -41,19 +46,33 @@ pub(crate) fn names() -> [&'static str; 18]
     ]
 }
 
-/// Adds a row for each of these live bookings, which were on the flights of the old season.
+/// Those of a row's columns that a report on bookings of journals with so many lines has.
+pub(crate) fn shown<'a, T>(counts: &[u32], all: &'a [T]) -> &'a [T]
+    ensures { result.now ≡ shown counts.now all.now }
+{
+    if !counts.is_empty() {
+        return all;
+    }
+    match all {
+        [] => all,
+        [_, rest @ ..] => rest,
+    }
+}
+
+/// Adds a row for each of these live bookings, which were on the flights of the old season, in journals with so many lines.
 pub(crate) fn put_fates(
     alloc: Global,
     sheet: &mut Sheet,
+    counts: &[u32],
     olds: &Flights,
     news: &Flights,
     all: &[Fated],
 ) -> Result<(), AllocError>
     requires ready { IsReady sheet.old }
-    ensures { OnOk result (ArePut carry_names (rows_from (fate_rows olds.now news.now) 0 all.now) sheet.old sheet.new) }
+    ensures { OnOk result (ArePut (carry_names counts.now) (rows_from (fate_rows counts.now olds.now news.now) 0 all.now) sheet.old sheet.new) }
 {
     for i in 0..all.len() {
-        put_fate(alloc, sheet, olds, news, &all[i])?;
+        put_fate(alloc, sheet, counts, olds, news, &all[i])?;
     }
     Ok(())
 }
@@ -62,32 +81,41 @@ pub(crate) fn put_fates(
 fn put_fate(
     alloc: Global,
     sheet: &mut Sheet,
+    counts: &[u32],
     olds: &Flights,
     news: &Flights,
     fated: &Fated,
 ) -> Result<(), AllocError>
     requires ready { IsReady sheet.old }
-    ensures { OnOk result (ArePut carry_names (fate_rows olds.now news.now 0 fated.now) sheet.old sheet.new) }
+    ensures { OnOk result (ArePut (carry_names counts.now) (fate_rows counts.now olds.now news.now 0 fated.now) sheet.old sheet.new) }
 {
-    let row = fate_row(olds, news, fated);
-    put_row(alloc, sheet, &names(), &row)?;
+    let columns = names();
+    let row = whole_row(counts, olds, news, fated);
+    put_row(alloc, sheet, shown(counts, &columns), shown(counts, &row))?;
     Ok(())
 }
 
-fn fate_row(olds: &Flights, news: &Flights, fated: &Fated) -> [Cell; 18]
-    ensures { result ≡ fate_row olds.now news.now fated.now }
+fn whole_row(counts: &[u32], olds: &Flights, news: &Flights, fated: &Fated) -> [Cell; 19]
+    ensures { result ≡ whole_row counts.now olds.now news.now fated.now }
 {
-    let old = old_side(olds, &fated.booking);
+    let own = own_number(counts, fated.booking.number);
+    let old = old_side(own.number, olds, &fated.booking);
     let new = new_side(news, &fated.booking, &fated.fate);
-    row_of(fated.booking.locator, &old, &new, code_cell(code_of(fated)))
+    row_of(
+        Cell::Number(own.journal),
+        fated.booking.locator,
+        &old,
+        &new,
+        code_cell(code_of(fated)),
+    )
 }
 
-/// What it was: HK where it held, HL where it waited.
-fn old_side(olds: &Flights, booking: &Booking) -> Side
-    ensures { result ≡ old_side olds.now booking.now }
+/// What it was, under this number: HK where it held, HL where it waited.
+fn old_side(number: u32, olds: &Flights, booking: &Booking) -> Side
+    ensures { result ≡ side_of number (name_of olds.now booking.now.place) booking.now.class (Word (status_code booking.now.status)) booking.now.seats }
 {
     side_of(
-        booking.number,
+        number,
         name_of(olds, booking.place),
         booking.class,
         Cell::Word(status_code(booking.status)),
@@ -132,10 +160,11 @@ fn code_cell(code: Option<Code>) -> Cell
     }
 }
 
-fn row_of(locator: Locator, old: &Side, new: &Side, code: Cell) -> [Cell; 18]
-    ensures { result ≡ row_of locator old.now new.now code }
+fn row_of(journal: Cell, locator: Locator, old: &Side, new: &Side, code: Cell) -> [Cell; 19]
+    ensures { result ≡ row_of journal locator old.now new.now code }
 {
     [
+        journal,
         old.number,
         Cell::Name(locator),
         old.designator,

@@ -5,4 +5,4 @@ use Rattle.carry_reports.specs.Lines.{IsFatedLine}
 use Rattle.carry_reports.proofs.line.put_lines.Given as goal
 
 abbrev pub invariant-loop-i : goal.invariant-loop-i
-invariant-loop-i l = IsPut (λ n. IsFatedLine l.olds l.news) 0 (take l.i l.all) l.initial.text.items l.text.items
+invariant-loop-i l = IsPut (λ n. IsFatedLine l.counts l.olds l.news) 0 (take l.i l.all) l.initial.text.items l.text.items

@@ -6,4 +6,4 @@ use Rattle.carry_tables.specs.FateRows.{carry_names, fate_rows}
 use Rattle.carry_tables.proofs.rows.put_fates.Given as goal
 
 abbrev pub invariant-loop-i : goal.invariant-loop-i
-invariant-loop-i l = ArePut carry_names (rows_from (fate_rows l.olds l.news) 0 (take l.i l.all)) l.initial.sheet l.sheet
+invariant-loop-i l = ArePut (carry_names l.counts) (rows_from (fate_rows l.counts l.olds l.news) 0 (take l.i l.all)) l.initial.sheet l.sheet
