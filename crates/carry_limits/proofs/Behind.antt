@@ -39,14 +39,12 @@ use Rattle.carry_limits.proofs.Standing.{stays_set}
 
 -- ---- an inventory without lines
 
-pub rows_opened : (i : Inventory) (grid file lifted : Ladders) (flights : List Flown) (cap : ℕ) (legs : List NamedLeg) (all : List Row)
-    → IsOpened i grid cap → grid ≡ file → legs ≡ every_leg flights → all ≡ rows lifted (state_now i) legs
-    → all ≡ rows lifted (state_of file []) (every_leg flights)
-rows_opened i grid file lifted flights cap legs all opened is are rows_are =
+pub rows_opened : (i : Inventory) (grid file lifted : Ladders) (cap : ℕ) (legs : List NamedLeg) (all : List Row)
+    → IsOpened i grid cap → grid ≡ file → all ≡ rows lifted (state_now i) legs → all ≡ rows lifted (state_of file []) legs
+rows_opened i grid file lifted cap legs all opened is rows_are =
     rows_are
     ∙ ap (λ (g : Ladders). rows lifted (replay g i.journal) legs) (opened.grid_is ∙ is)
     ∙ ap (λ (j : List Entry). rows lifted (replay file j) legs) opened.journal_is
-    ∙ ap (λ (l : List NamedLeg). rows lifted (state_of file []) l) are
 
 -- ---- lines and rows
 

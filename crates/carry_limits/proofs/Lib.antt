@@ -3,6 +3,8 @@ pub mod Standing
 pub mod Lifted
 pub mod Grids
 pub mod Files
+pub mod Kept
+pub mod Unlifted
 pub mod Counted
 pub mod Ranked
 pub mod Behind

@@ -1,6 +1,7 @@
 pub mod ByFlight
 pub mod Legs
 pub mod Wanting
+pub mod Filed
 pub mod Lifting
 pub mod Overs
 pub mod Changes

@@ -2,13 +2,14 @@
 //! It knows no way out.
 ghost use Rattle.std.specs.Prelude.{◌≡◌, ◌≤◌, ◌++◌, IfOk, OnOk, length, min};
 ghost use Rattle.std.specs.List.{sum_by};
-ghost use Rattle.seat_nesting.specs.Nesting.{covers, has_class};
+ghost use Rattle.seat_nesting.specs.Nesting.{has_class};
 ghost use Rattle.seat_rules.specs.Bookings.{seats_among};
 ghost use Rattle.carry_limits.specs.Overs.{all_held, flight_overs, most_counted, over_on, overs, seats_at};
 
+use crate::fitting::covers;
 use crate::lifting::top_of;
 use crate::parting::ByFlight;
-use airline_base::{Class, Memory, Place};
+use airline_base::{Class, Memory};
 use limit_changes::{NamedLeg, named_leg};
 use seat_lists::Designator;
 use seat_nesting::{Grid, Step};
@@ -122,12 +123,6 @@ fn seats_among(steps: &[Step], flight: u32, leg: u8, booking: &Booking) -> u32
     } else {
         0
     }
-}
-
-fn covers(flight: u32, leg: u8, place: Place) -> bool
-    ensures { result ≡ covers flight leg place }
-{
-    place.flight == flight && place.from <= leg && leg <= place.to
 }
 
 fn has_class(steps: &[Step], class: Class) -> bool

@@ -4,6 +4,7 @@
 
 mod changing;
 mod counting;
+mod fitting;
 mod laws;
 mod lifting;
 mod parting;
