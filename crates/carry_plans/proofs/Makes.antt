@@ -13,7 +13,7 @@ use Rattle.seat_seal.specs.declared.beside.Basis.{Basis}
 use Rattle.seat_seal.specs.declared.seal.Sealed.{Sealed as Belonging}
 use Rattle.carry_limits.proofs.Files.{authorised_has_legs}
 use Rattle.carry_limits.specs.Legs.{HasLegsOf}
-use Rattle.carry_plans.specs.Carries.{IsMadeOf, IsPut, IsUnmade}
+use Rattle.carry_plans.specs.Carries.{IsMadeFrom, IsMadeOf, IsPut, IsUnmade}
 use Rattle.carry_plans.specs.Plans.{IsUnplanned}
 use Rattle.carry_plans.specs.Promises.{IsPromised}
 use Rattle.carry_plans.specs.declared.asked.CarryAsked.{CarryAsked}
@@ -35,9 +35,6 @@ module _ (asked : CarryAsked) (news : List Flown) (file : Ladders) (olds : List 
   of_journal f fault same kind wrong =
       subst (IsUnmade asked news file olds grid bytes) (sym same) (record { is_old = refl; kind = kind; unlawful = wrong })
 
-  pub want_of : (f : CarryFault) → f ≡ Memory → IsUnmade asked news file olds grid bytes f
-  want_of f e = subst (IsUnmade asked news file olds grid bytes) (sym e) tt
-
   pub unmade_of : (f : CarryFault) (before : Inventory) → IsReplayOf grid bytes before → IsUnplanned asked olds before news file f
       → IsUnmade asked news file olds grid bytes f
   unmade_of (Over text) before replayed wrong = record { before = before; replayed = replayed; unplanned = wrong }
@@ -47,8 +44,16 @@ module _ (asked : CarryAsked) (news : List Flown) (file : Ladders) (olds : List 
   unmade_of Unsealed before replayed wrong = absurd wrong
   unmade_of (Season fault) before replayed wrong = absurd wrong
 
-  pub made_of_it : (basis : Basis) (known : Belonging) (c : Carriage) (before after : Inventory) (report : List ℕ) → IsReplayOf grid bytes before
-      → IsPromised asked olds before news file after report → IsPut asked.today basis known after report c
-      → IsMadeOf asked news file basis olds grid bytes known c
-  made_of_it basis known c before after report replayed plan put =
-      record { before = before; replayed = replayed; after = after; report = report; promised = plan; put = put }
+  pub made_of_it : (basis : Basis) (known : Belonging) (c : Carriage) (before : Inventory) → IsReplayOf grid bytes before
+      → IsMadeFrom asked news file basis olds before known.era.epoch known c → IsMadeOf asked news file basis olds grid bytes known c
+  made_of_it basis known c before replayed from = record { before = before; replayed = replayed; from = from }
+
+pub made_from_it : (asked : CarryAsked) (news : List Flown) (file : Ladders) (basis : Basis) (olds : List Flown) (epoch : ℕ) (known : Belonging) (c : Carriage)
+    (before after : Inventory) (report : List ℕ) → IsPromised asked olds before news file after report → IsPut asked.today basis epoch known after report c
+    → IsMadeFrom asked news file basis olds before epoch known c
+made_from_it asked news file basis olds epoch known c before after report plan put =
+    record { after = after; report = report; promised = plan; put = put }
+
+pub unplanned_memory : (asked : CarryAsked) (olds : List Flown) (before : Inventory) (news : List Flown) (file : Ladders) (f : CarryFault) → f ≡ Memory
+    → IsUnplanned asked olds before news file f
+unplanned_memory asked olds before news file f e = subst (IsUnplanned asked olds before news file) (sym e) tt

@@ -88,23 +88,23 @@ module _ (asked : CarryAsked) (olds : List Flown) (before : Inventory) (news : L
 
 -- ---- the report
 
-pub report_of : (form : Option Form) (today : ℕ) (olds news : List Flown) (live : List Booking) (numbered : List Numbered) (after : Inventory) (carried : Carried)
+pub report_of : (form : Option Form) (counts : List ℕ) (today : ℕ) (olds news : List Flown) (live : List Booking) (numbered : List Numbered) (after : Inventory) (carried : Carried)
     (all all_slice : List Fated) (text : List ℕ) → carried.olds.now ≡ olds → carried.news.now ≡ news → carried.new.now ≡ news
     → carried.today ≡ today → carried.asked.now ≡ numbered → carried.after.now ≡ after
-    → all ≡ fates carried live → all_slice ≡ all → IsReportAs form olds news all_slice text → IsReportOf form today olds news live numbered after text
-report_of form today olds news live numbered after carried all all_slice text a b c d e f fated is_all is = record {
+    → all ≡ fates carried live → all_slice ≡ all → IsReportAs form counts olds news all_slice text → IsReportOf form counts today olds news live numbered after text
+report_of form counts today olds news live numbered after carried all all_slice text a b c d e f fated is_all is = record {
   carried = carried;
   is_carried = record { olds_are = a; news_are = b; new_is = c; today_is = d; asked_are = e; after_is = f };
-  is_report = subst (λ (x : List Fated). IsReportAs form olds news x text) (is_all ∙ fated) is;
+  is_report = subst (λ (x : List Fated). IsReportAs form counts olds news x text) (is_all ∙ fated) is;
 }
 
-pub report_in : (form : Option Form) (today : ℕ) (olds news : List Flown) (live live_slice : List Booking) (kept kept_slice : List Owned) (ahead : ℕ) (after : Inventory)
+pub report_in : (form : Option Form) (counts : List ℕ) (today : ℕ) (olds news : List Flown) (live live_slice : List Booking) (kept kept_slice : List Owned) (ahead : ℕ) (after : Inventory)
     (numbered numbered_slice : List Numbered) (text : List ℕ) → kept_slice ≡ kept → AreNumbered ahead kept_slice numbered → numbered_slice ≡ numbered
-    → live_slice ≡ live → IsReportOf form today olds news live_slice numbered_slice after text → IsReportIn form today olds news live kept ahead after text
-report_in form today olds news live live_slice kept kept_slice ahead after numbered numbered_slice text is_kept are is_numbered is_live is = record {
+    → live_slice ≡ live → IsReportOf form counts today olds news live_slice numbered_slice after text → IsReportIn form counts today olds news live kept ahead after text
+report_in form counts today olds news live live_slice kept kept_slice ahead after numbered numbered_slice text is_kept are is_numbered is_live is = record {
   numbered = numbered;
   are_numbered = subst (λ (l : List Owned). AreNumbered ahead l numbered) is_kept are;
   reported =
-      subst (λ (l : List Booking). IsReportOf form today olds news l numbered after text) is_live
-      (subst (λ (l : List Numbered). IsReportOf form today olds news live_slice l after text) is_numbered is);
+      subst (λ (l : List Booking). IsReportOf form counts today olds news l numbered after text) is_live
+      (subst (λ (l : List Numbered). IsReportOf form counts today olds news live_slice l after text) is_numbered is);
 }

@@ -195,7 +195,7 @@ module _ (asked : CarryAsked) (olds : List Flown) (before : Inventory) (news : L
       → AreSeasons asked olds before news file seasons → HasRoomIf asked.displaces news file lists
       → rows ≡ changes_for seasons lists → marks ≡ marks_for asked.fresh_limits olds before news file
       → IsReplayed after file most_lines (carried_lines file rows kept marks) → ahead ≡ length rows
-      → IsReportIn asked.form asked.today olds news live kept ahead after report → IsBehindFor news file lists rows → StaysSame asked courses seasons lists (length rows) after
+      → IsReportIn asked.form asked.counts.now asked.today olds news live kept ahead after report → IsBehindFor news file lists rows → StaysSame asked courses seasons lists (length rows) after
       → IsPromised asked olds before news file after report
   promised_of after report seasons rows marks ahead are room r m lines counted reported behind same = record {
     planned = record {
@@ -228,10 +228,10 @@ module _ (asked : CarryAsked) (olds : List Flown) (before : Inventory) (news : L
           subst (λ (x : List Mark). IsReplayed after file most_lines (carried_lines file (changes_for seasons lists) kept x)) m
           (subst (λ (x : List Change). IsReplayed after file most_lines (carried_lines file x kept marks)) r lines)
 
-      told : IsReportIn asked.form asked.today olds news live kept (length (changes_for seasons lists)) after report
+      told : IsReportIn asked.form asked.counts.now asked.today olds news live kept (length (changes_for seasons lists)) after report
       told =
-          subst (λ (x : List Change). IsReportIn asked.form asked.today olds news live kept (length x) after report) r
-          (subst (λ (k : ℕ). IsReportIn asked.form asked.today olds news live kept k after report) counted reported)
+          subst (λ (x : List Change). IsReportIn asked.form asked.counts.now asked.today olds news live kept (length x) after report) r
+          (subst (λ (k : ℕ). IsReportIn asked.form asked.counts.now asked.today olds news live kept k after report) counted reported)
 
 -- ---- who stays
 

@@ -39,33 +39,38 @@ use Rattle.carry_plans.specs.declared.fault.CarryFault.TheVariants.{Season, Unse
 abbrev pub next_epoch : ℕ → ℕ
 next_epoch epoch = min (epoch + 1) 4294967295
 
--- the era behind this one, which begins on a day, of a journal whose bookings were carried nowhere
-pub record IsNextEra (old : Era) (today : ℕ) (new : Era) : Type 0 where
-  pub epoch_is : new.epoch ≡ next_epoch old.epoch
+-- the era behind one of this epoch, which begins on a day, of a journal whose bookings were carried nowhere
+pub record IsNextEra (epoch today : ℕ) (new : Era) : Type 0 where
+  pub epoch_is : new.epoch ≡ next_epoch epoch
   pub date : Date
   pub is_date : IsDateOf today date
   pub today_is : new.today ≡ Some date
   pub carried_is : new.carried ≡ None
 
--- the text is that of the inventory's journal, and the entry is its own on this basis, a closed one without runs, of the next era
-pub record IsPut (today : ℕ) (basis : Basis) (known : Belonging) (after : Inventory) (report : List ℕ) (c : Carriage) : Type 0 where
+-- the text is that of the inventory's journal, and the entry is its own on this basis, a closed one without runs, of the era behind this epoch
+pub record IsPut (today : ℕ) (basis : Basis) (epoch : ℕ) (known : Belonging) (after : Inventory) (report : List ℕ) (c : Carriage) : Type 0 where
   pub text_is : c.text ≡ journal_text after.journal
   pub entry : IsClosedEntry basis (imprint_of (front_of c.text)) (length after.journal) [] c.entry
-  pub era : IsNextEra known.era today c.entry.era
+  pub era : IsNextEra epoch today c.entry.era
   pub report_is : c.report ≡ report
   pub known_is : c.known ≡ known
 
 -- ---- what is made
+
+-- of an inventory over the old limits
+pub record IsMadeFrom (asked : CarryAsked) (news : List Flown) (file : Ladders) (basis : Basis) (olds : List Flown) (before : Inventory)
+    (epoch : ℕ) (known : Belonging) (c : Carriage) : Type 0 where
+  pub after : Inventory
+  pub report : List ℕ
+  pub promised : IsPromised asked olds before news file after report
+  pub put : IsPut asked.today basis epoch known after report c
 
 -- of a journal that is a legal history over the old limits
 pub record IsMadeOf (asked : CarryAsked) (news : List Flown) (file : Ladders) (basis : Basis) (olds : List Flown) (grid : Ladders)
     (bytes : List ℕ) (known : Belonging) (c : Carriage) : Type 0 where
   pub before : Inventory
   pub replayed : IsReplayOf grid bytes before
-  pub after : Inventory
-  pub report : List ℕ
-  pub promised : IsPromised asked olds before news file after report
-  pub put : IsPut asked.today basis known after report c
+  pub from : IsMadeFrom asked news file basis olds before known.era.epoch known c
 
 -- and of what its seal knows
 pub record IsMade (asked : CarryAsked) (beside : Beside) (news : List Flown) (file : Ladders) (basis : Basis) (olds : List Flown)

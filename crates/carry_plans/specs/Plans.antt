@@ -116,19 +116,19 @@ pub record IsCarriedTo (today : ℕ) (olds news : List Flown) (numbered : List N
   pub asked_are : carried.asked.now ≡ numbered
   pub after_is : carried.after.now ≡ after
 
--- what became of each live booking, in the form that is asked for
-pub record IsReportOf (form : Option Form) (today : ℕ) (olds news : List Flown) (live : List Booking) (numbered : List Numbered) (after : Inventory)
+-- what became of each live booking, in the form that is asked for, with its number in its own journal
+pub record IsReportOf (form : Option Form) (counts : List ℕ) (today : ℕ) (olds news : List Flown) (live : List Booking) (numbered : List Numbered) (after : Inventory)
     (report : List ℕ) : Type 0 where
   pub carried : Carried
   pub is_carried : IsCarriedTo today olds news numbered after carried
-  pub is_report : IsReportAs form olds news (fates carried live) report
+  pub is_report : IsReportAs form counts olds news (fates carried live) report
 
 -- where each that was asked for has its line, behind so many others
-pub record IsReportIn (form : Option Form) (today : ℕ) (olds news : List Flown) (live : List Booking) (kept : List Owned) (ahead : ℕ) (after : Inventory)
+pub record IsReportIn (form : Option Form) (counts : List ℕ) (today : ℕ) (olds news : List Flown) (live : List Booking) (kept : List Owned) (ahead : ℕ) (after : Inventory)
     (report : List ℕ) : Type 0 where
   pub numbered : List Numbered
   pub are_numbered : AreNumbered ahead kept numbered
-  pub reported : IsReportOf form today olds news live numbered after report
+  pub reported : IsReportOf form counts today olds news live numbered after report
 
 -- the new inventory has the changes of limits, the live bookings and the closed classes as its lines, over the file's limits; no leg has fewer seats
 -- than are held there, unless who loses is asked to; and the report says what became of each
@@ -145,7 +145,7 @@ pub record IsPlanned (asked : CarryAsked) (olds : List Flown) (before : Inventor
   pub room : HasRoomIf asked.displaces news file lists
   pub lines : IsReplayed after file most_lines
       (carried_lines file (changes_for seasons lists) kept (marks_for asked.fresh_limits olds before news file))
-  pub reported : IsReportIn asked.form asked.today olds news live kept (length (changes_for seasons lists)) after report
+  pub reported : IsReportIn asked.form asked.counts.now asked.today olds news live kept (length (changes_for seasons lists)) after report
 
 -- ---- why nothing is made
 

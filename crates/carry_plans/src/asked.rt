@@ -15,6 +15,8 @@ pub struct CarryAsked<'a> {
     pub displaces: bool,
     /// The limits are those of the new season's file, whatever the journal's changes and closings set.
     pub fresh_limits: bool,
+    /// How many lines each of several journals has, whose lines the older inventory has one behind the other; none where it is one journal's.
+    pub counts: &'a [u32],
     /// The report is a table in this form, a row for each live booking; else it is a line for each, and one of sums.
     pub form: Option<Form>,
 }

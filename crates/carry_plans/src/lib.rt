@@ -14,4 +14,5 @@ mod reading;
 pub use asked::CarryAsked;
 pub use carriage::Carriage;
 pub use fault::CarryFault;
+pub use making::made_from;
 pub use reading::desk_carry;

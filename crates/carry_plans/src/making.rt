@@ -6,7 +6,8 @@ ghost use Rattle.seat_desk.specs.AuditDesk.{most_journal_bytes, most_lines};
 ghost use Rattle.seat_desk.specs.Loading.{IsGridOf};
 ghost use Rattle.seat_seal.specs.Fronts.{front_of};
 ghost use Rattle.seat_seal.specs.Imprints.{imprint_of};
-ghost use Rattle.carry_plans.specs.Carries.{IsMadeOf, IsNextEra, IsPut, IsUnmade, next_epoch};
+ghost use Rattle.carry_plans.specs.Carries.{IsMadeFrom, IsMadeOf, IsNextEra, IsPut, IsUnmade, next_epoch};
+ghost use Rattle.carry_plans.specs.Plans.{IsUnplanned};
 
 use crate::asked::CarryAsked;
 use crate::carriage::Carriage;
@@ -23,7 +24,7 @@ use std::alloc::Global;
 use std::thread::Threads;
 
 /// What carries the live bookings of a journal with these bytes over the old season to the new one, if they are a legal history over its limits.
-#[tactic(auto, using(crate::proofs::Makes::grid_before, crate::proofs::Makes::of_journal, crate::proofs::Makes::want_of, crate::proofs::Makes::unmade_of, crate::proofs::Makes::made_of_it))]
+#[tactic(auto, using(crate::proofs::Makes::grid_before, crate::proofs::Makes::of_journal, crate::proofs::Makes::unmade_of, crate::proofs::Makes::made_of_it))]
 pub(crate) fn made<R: Threads + Sync>(
     rt: &R,
     alloc: Global,
@@ -47,6 +48,33 @@ pub(crate) fn made<R: Threads + Sync>(
         Ok(before) => before,
         Err(fault) => return Err(of_old(fault)),
     };
+    let epoch = known.era.epoch;
+    match made_from(alloc, asked, new, olds, before, epoch, known) {
+        Ok(carriage) => Ok(carriage),
+        Err(fault) => Err(fault),
+    }
+}
+
+/// What carries the live bookings of an inventory over the old season's limits to the new season; the new journal's seal says that it is of the era behind
+/// this epoch.
+#[tactic(auto, using(crate::proofs::Makes::unplanned_memory, crate::proofs::Makes::made_from_it))]
+pub fn made_from(
+    alloc: Global,
+    asked: &CarryAsked<'_>,
+    new: &Based,
+    olds: &Flights,
+    before: Core,
+    epoch: u32,
+    known: Sealed,
+) -> Result<Carriage, CarryFault>
+    requires rows { length asked.now.protections.now < 2 ^ 32 }
+    requires grid { IsGridOf olds.now before.grid }
+    requires file { HasLegsOf new.now.loaded.grid new.now.loaded.flights }
+    requires ladders { IsGridOf new.now.loaded.flights new.now.loaded.grid }
+    ensures imprint { IfOk result (λ c. c.entry.journal.imprint ≡ imprint_of (front_of c.text)) }
+    ensures made { IfOk result (IsMadeFrom asked.now new.now.loaded.flights new.now.loaded.grid new.now.basis olds.now before epoch known) }
+    ensures fault { IfErr result (IsUnplanned asked.now olds.now before new.now.loaded.flights new.now.loaded.grid) }
+{
     let planned = match plan(
         alloc,
         asked,
@@ -59,7 +87,7 @@ pub(crate) fn made<R: Threads + Sync>(
         Err(fault) => return Err(fault),
     };
     drop(before);
-    match put(alloc, asked.today, &new.basis, planned, known) {
+    match put(alloc, asked.today, &new.basis, planned, epoch, known) {
         Ok(carriage) => Ok(carriage),
         Err(fault) => Err(fault),
     }
@@ -71,10 +99,11 @@ fn put(
     today: Day,
     basis: &Basis,
     planned: Planned,
+    epoch: u32,
     known: Sealed,
 ) -> Result<Carriage, CarryFault>
     ensures imprint { IfOk result (λ c. c.entry.journal.imprint ≡ imprint_of (front_of c.text)) }
-    ensures put { IfOk result (IsPut today basis.now known planned.after planned.report) }
+    ensures put { IfOk result (IsPut today basis.now epoch known planned.after planned.report) }
     ensures memory { IfErr result (λ f. f ≡ CarryFault.Memory) }
 {
     let Planned { after, report } = planned;
@@ -83,7 +112,7 @@ fn put(
         return Err(CarryFault::Memory);
     };
     let imprint = imprint_of(front_of(&text));
-    let era = next_era(&known.era, today);
+    let era = next_era(epoch, today);
     Ok(Carriage {
         text: Items::from_vec(text),
         entry: closed_entry(basis, era, imprint, lines, Runs::new()),
@@ -92,12 +121,12 @@ fn put(
     })
 }
 
-/// The era behind this one, which begins on a day.
-fn next_era(era: &Era, today: Day) -> Era
-    ensures { IsNextEra era.now today result }
+/// The era behind one of this epoch, which begins on a day.
+fn next_era(epoch: u32, today: Day) -> Era
+    ensures { IsNextEra epoch today result }
 {
     Era {
-        epoch: era.epoch.saturating_add(1),
+        epoch: epoch.saturating_add(1),
         today: Some(Date::of(today)),
         carried: None,
     }

@@ -216,6 +216,7 @@ fn plan_of(
     match reported(
         alloc,
         asked.form,
+        asked.counts,
         asked.today,
         olds,
         old,
@@ -330,6 +331,7 @@ fn asked_anew(
 fn reported(
     alloc: Global,
     form: Option<Form>,
+    counts: &[u32],
     today: Day,
     olds: &Flights,
     old: &Served<'_>,
@@ -342,7 +344,7 @@ fn reported(
     requires old { old.now ≡ olds.now }
     requires new { new.now ≡ news.now }
     requires few { ahead + length chosen.now.kept.items ≤ 999999 }
-    ensures report { IfOk result (λ text. IsReportIn form today olds.now news.now chosen.now.live.items chosen.now.kept.items ahead after.now text) }
+    ensures report { IfOk result (λ text. IsReportIn form counts.now today olds.now news.now chosen.now.live.items chosen.now.kept.items ahead after.now text) }
     ensures memory { IfErr result (λ f. f ≡ CarryFault.Memory) }
 {
     let Ok(asked) = by_number(alloc, ahead, chosen.kept.as_slice()) else {
@@ -351,6 +353,7 @@ fn reported(
     match reported_of(
         alloc,
         form,
+        counts,
         today,
         olds,
         old,
@@ -370,6 +373,7 @@ fn reported(
 fn reported_of(
     alloc: Global,
     form: Option<Form>,
+    counts: &[u32],
     today: Day,
     olds: &Flights,
     old: &Served<'_>,
@@ -381,7 +385,7 @@ fn reported_of(
 ) -> Result<Items<u8>, CarryFault>
     requires old { old.now ≡ olds.now }
     requires new { new.now ≡ news.now }
-    ensures report { IfOk result (λ text. IsReportOf form today olds.now news.now live.now asked.now after.now text) }
+    ensures report { IfOk result (λ text. IsReportOf form counts.now today olds.now news.now live.now asked.now after.now text) }
     ensures memory { IfErr result (λ f. f ≡ CarryFault.Memory) }
 {
     let carried = Carried {
@@ -396,7 +400,7 @@ fn reported_of(
     let Ok(all) = fates(alloc, &carried, live) else {
         return Err(CarryFault::Memory);
     };
-    match report_as(alloc, form, olds, news, all.as_slice()) {
+    match report_as(alloc, form, counts, olds, news, all.as_slice()) {
         Ok(text) => Ok(Items::from_vec(text)),
         Err(_) => Err(CarryFault::Memory),
     }
