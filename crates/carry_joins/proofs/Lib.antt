@@ -1,0 +1,6 @@
+mod Adding
+mod AsOne
+mod Epochs
+mod Failing
+mod Onto
+mod Seasons
