@@ -11,6 +11,7 @@ ghost use Rattle.ssim_flights.specs.Right.{IsOfCentury};
 use crate::inputs::{Seasons, made, seasons_of, unmade};
 use crate::lists::{order_of, protections_of};
 use crate::placing::{Newer, Older, failed, newer_locked, newer_named, older_locked, standing};
+use crate::several::{carried_together, tried_together};
 use airline_base::put_all;
 use carry_plans::{Carriage, CarryAsked};
 use command_inputs::{day_of_run, days_of};
@@ -53,12 +54,16 @@ pub fn carry<'a, R: Threads + Sync>(
         order: order.as_slice(),
         displaces: asked.displaces,
         fresh_limits: asked.fresh_limits,
+        counts: &[],
         form,
     };
     let mut seasons = match seasons_of(rt, from, from_days, to, to_days) {
         Ok(seasons) => seasons,
         Err(refusal) => return Err(refusal),
     };
+    if !asked.others.is_empty() {
+        return together(rt, threads, meter, asked, &asking, &mut seasons);
+    }
     if asked.dry_run {
         return tried(rt, threads, meter, asked, &asking, &mut seasons);
     }
@@ -79,6 +84,27 @@ pub fn carry<'a, R: Threads + Sync>(
     );
     older.seal.leave();
     outcome
+}
+
+/// The same of several journals.
+fn together<'a, R: Threads + Sync>(
+    rt: &'a HostRuntime,
+    threads: &R,
+    meter: &'a Meter,
+    asked: &CarryJob<'a>,
+    asking: &CarryAsked<'_>,
+    seasons: &mut Seasons<'a>,
+) -> Result<bool, Refusal<'a>>
+    requires from_first { IsOfCentury seasons.old.from.first }
+    requires from_days { (1 ≤ seasons.old.from.days) × (seasons.old.from.days ≤ 366) }
+    requires to_first { IsOfCentury seasons.old.to.first }
+    requires to_days { (1 ≤ seasons.old.to.days) × (seasons.old.to.days ≤ 366) }
+    requires rows { length asking.now.protections.now ≤ 16777216 }
+{
+    if asked.dry_run {
+        return tried_together(rt, threads, meter, asked, asking, seasons);
+    }
+    carried_together(rt, threads, meter, asked, asking, seasons)
 }
 
 /// What it would be, of which the report alone is written.
@@ -242,7 +268,7 @@ fn handed<'a>(
     put(rt, asked, hand, carriage, before, older, text, newer, out)
 }
 
-fn slice_of(text: &Option<Vec<u8>>) -> Option<&[u8]> {
+pub(crate) fn slice_of(text: &Option<Vec<u8>>) -> Option<&[u8]> {
     match text {
         Some(text) => Some(text.as_slice()),
         None => None,
@@ -307,7 +333,7 @@ fn put<'a>(
     }
 }
 
-fn write<'a>(out: &mut Output<'a>, text: &[u8]) -> Result<(), Refusal<'a>> {
+pub(crate) fn write<'a>(out: &mut Output<'a>, text: &[u8]) -> Result<(), Refusal<'a>> {
     match put_all(out, text) {
         Ok(()) => Ok(()),
         Err(_) => Err(Refusal::from(DeskFault::Device).noting_output(out)),

@@ -104,3 +104,28 @@ fn of_season<'a>(fault: SeasonFault, seasons: &Seasons<'a>, journal: &Input<'a>)
         .noting_all(&[&seasons.from.set, &seasons.from.limits])
         .noting_all(&[&*journal])
 }
+
+/// The same of several journals.
+pub(crate) fn unmade_of<'a>(
+    fault: CarryFault,
+    seasons: &Seasons<'a>,
+    journals: &[Input<'a>],
+    asked: &CarryJob<'a>,
+) -> Result<Items<u8>, Refusal<'a>> {
+    match fault {
+        CarryFault::Over(lines) => Ok(lines),
+        CarryFault::Season(fault) => Err(
+            Refusal::from(fault.shown())
+                .noting_all(&[&seasons.to.set, &seasons.to.limits])
+                .noting_all(&[&seasons.from.set, &seasons.from.limits])
+                .noting_each(journals),
+        ),
+        CarryFault::Unsealed => {
+            let refusal = Refusal::from(DeskFault::Seal(SealFault::Missing));
+            Err(refusal.noting_each(journals))
+        }
+        CarryFault::Row(fault) => Err(of_row(fault, asked.protections)),
+        CarryFault::Full => Err(Refusal::from(DeskFault::TooLarge).at(asked.new, None)),
+        CarryFault::Memory => Err(Refusal::from(DeskFault::Memory)),
+    }
+}

@@ -5,6 +5,9 @@
 mod carrying;
 mod inputs;
 mod lists;
+mod marking;
+mod naming;
 mod placing;
+mod several;
 
 pub use carrying::carry;

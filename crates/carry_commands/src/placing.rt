@@ -75,19 +75,32 @@ pub(crate) fn newer_locked<'a>(
     seasons: &Seasons<'a>,
     older: &Older<'a>,
 ) -> Result<Newer<'a>, Refusal<'a>> {
+    let more = [&seasons.to.set, &seasons.to.limits, &older.journal];
+    newer_beside(rt, asked, seasons, &[], &more)
+}
+
+/// The same beside several older journals.
+pub(crate) fn newer_among<'a>(
+    rt: &'a HostRuntime,
+    asked: &CarryJob<'a>,
+    seasons: &Seasons<'a>,
+    olders: &[Input<'a>],
+) -> Result<Newer<'a>, Refusal<'a>> {
+    let more = [&seasons.to.set, &seasons.to.limits];
+    newer_beside(rt, asked, seasons, olders, &more)
+}
+
+fn newer_beside<'a>(
+    rt: &'a HostRuntime,
+    asked: &CarryJob<'a>,
+    seasons: &Seasons<'a>,
+    olders: &[Input<'a>],
+    more: &[&Input<'a>],
+) -> Result<Newer<'a>, Refusal<'a>> {
     let guard = Guard::new(rt, asked.new)?;
-    guard.pass(
-        &seasons.from,
-        &[],
-        &[&seasons.to.set, &seasons.to.limits, &older.journal],
-    )?;
+    guard.pass(&seasons.from, olders, more)?;
     guard.pass_output(rt)?;
-    let files = files_taken(
-        rt,
-        &seasons.from,
-        &[],
-        &[&seasons.to.set, &seasons.to.limits, &older.journal],
-    )?;
+    let files = files_taken(rt, &seasons.from, olders, more)?;
     let journal = JournalFile::open(rt, asked.new, files.as_slice())?;
     let path = match path_of(rt, &journal) {
         Ok(path) => path,

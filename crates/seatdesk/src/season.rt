@@ -10,10 +10,8 @@ use seat_season::{
     Around, MOST_SEASON_BYTES, Season, SeasonKind, TextFault, Words, beside_season, folder_of,
     path_of, season_named, season_of, season_table, seasoned_words,
 };
-use seat_words::{
-    CarryJob, CompareJob, Horizon, Job, Shape, WordFault, read_words, words_in_conflict,
-};
-use std::alloc::AllocError;
+use seat_words::{CarryJob, CompareJob, Horizon, Job, WordFault, read_words, words_in_conflict};
+use std::alloc::{AllocError, Global};
 use std::process::ExitCode;
 use std::sync::Wait;
 use std::thread::Threads;
@@ -111,34 +109,22 @@ pub fn carried<'a, T: Threads + Sync>(
         Ok(words) => words,
         Err(status) => return Ok(status),
     };
-    let from = from.texts(rt.alloc())?;
-    let to = to.texts(rt.alloc())?;
-    let how = How {
-        displaces: asked.displaces,
-        fresh_limits: asked.fresh_limits,
-        anew: asked.anew,
-        dry_run: asked.dry_run,
-        shape: asked.shape,
-    };
-    match carried_over(
-        rt,
-        threads,
-        meter,
-        from.as_slice(),
-        to.as_slice(),
-        asked.from,
-        asked.to,
-        asked.today,
-        asked.new,
-        asked.protections,
-        asked.order,
-        asked.journal,
-        how,
-    ) {
+    let from = horizon_in(rt, staying(rt.alloc(), from)?)?;
+    let to = horizon_in(rt, staying(rt.alloc(), to)?)?;
+    match carry_commands::carry(rt, threads, meter, asked, &from, &to) {
         Ok(false) => Ok(ExitCode::SUCCESS),
         Ok(true) => Ok(ExitCode::from(DIFFERS)),
-        Err(undone) => over_both(rt, meter, is_verbose, undone),
+        Err(refusal) => Err(Undone::Refused(refusal)),
     }
+}
+
+/// The words of a season, which stay for as long as the program runs, as those of the command line do.
+fn staying<'a>(alloc: Global, words: Words) -> Result<&'a [&'a str], AllocError> {
+    let mut kept = Vec::new(alloc);
+    kept.push(words)?;
+    let kept: &'a [Words] = kept.leak();
+    let texts: &'a [&'a str] = kept[0].texts(alloc)?.leak();
+    Ok(texts)
 }
 
 /// What two seasons say of a set, its limits and its days.
@@ -187,51 +173,6 @@ fn compared_over<'a, T: Threads + Sync>(
     let to = horizon_in(rt, to)?;
     question_commands::compare(rt, threads, meter, &from, &to, journal)?;
     Ok(())
-}
-
-/// How a carry is asked for.
-#[derive(Clone, Copy)]
-struct How {
-    displaces: bool,
-    fresh_limits: bool,
-    anew: bool,
-    dry_run: bool,
-    shape: Shape,
-}
-
-// The words of the job one by one: a job stands at one lifetime, and the words of the seasons live shorter.
-fn carried_over<'a, T: Threads + Sync>(
-    rt: &'a HostRuntime,
-    threads: &T,
-    meter: &'a Meter,
-    over_from: &'a [&'a str],
-    over_to: &'a [&'a str],
-    from: &'a str,
-    to: &'a str,
-    today: &'a str,
-    new: &'a str,
-    protections: Option<&'a str>,
-    order: Option<&'a str>,
-    journal: &'a str,
-    how: How,
-) -> Result<bool, Undone<'a>> {
-    let over_from = horizon_in(rt, over_from)?;
-    let over_to = horizon_in(rt, over_to)?;
-    let job = CarryJob {
-        from,
-        to,
-        today,
-        new,
-        protections,
-        order,
-        displaces: how.displaces,
-        fresh_limits: how.fresh_limits,
-        anew: how.anew,
-        dry_run: how.dry_run,
-        shape: how.shape,
-        journal,
-    };
-    Ok(carry_commands::carry(rt, threads, meter, &job, &over_from, &over_to)?)
 }
 
 /// Over what the words of a command work that has nothing else.
