@@ -22,6 +22,7 @@
  *   KILL_SYNC=N      the process is killed ahead of the Nth fsync or fdatasync, and likewise
  *   KILL_TRUNCATE=N, KILL_LINK=N, KILL_RENAME=N, KILL_UNLINK=N, KILL_LOCK=N, KILL_CHMOD=N
  *   HOLD_SYNC=FILE   each fsync or fdatasync waits as long as FILE is there
+ *   HOLD_MARK=FILE   each write of a host's mark, which begins with `!?HOST `, likewise
  *   SLOW_RENAME=MS   each rename waits so many milliseconds, and
  *   SLOW_LOCK=MS     each flock
  *   REFUSE_MET=FILE  FILE is made once the Nth call was met
@@ -40,6 +41,7 @@
 #include <stdatomic.h>
 #include <stdint.h>
 #include <stdlib.h>
+#include <string.h>
 #include <sys/file.h>
 #include <sys/stat.h>
 #include <sys/syscall.h>
@@ -54,7 +56,7 @@ extern void *__libc_memalign(size_t, size_t);
 
 static long refuse_alloc, fail_read, fail_write, short_read, short_write, zero_write, one_byte, fail_stat, kill_write;
 static int fail_error = EIO;
-static const char *met_file, *hold_file;
+static const char *met_file, *hold_file, *hold_mark;
 static atomic_bool in_main;
 static atomic_long allocs, reads, writes, looks;
 
@@ -110,6 +112,7 @@ static int counted_main(int count, char **words, char **environment) {
     }
     met_file = getenv("REFUSE_MET");
     hold_file = getenv("HOLD_SYNC");
+    hold_mark = getenv("HOLD_MARK");
     if (number_of("FAIL_ERROR"))
         fail_error = (int)number_of("FAIL_ERROR");
     atomic_store(&in_main, 1);
@@ -173,6 +176,14 @@ int posix_memalign(void **block, size_t alignment, size_t size) {
     return 0;
 }
 
+/* Waits as long as a file is there. */
+static void wait_held(const char *file) {
+    int kept = errno;
+    while (atomic_load(&in_main) && file && syscall(SYS_faccessat, AT_FDCWD, file, F_OK) == 0)
+        nanosleep(&(struct timespec){.tv_nsec = 1000000}, NULL);
+    errno = kept;
+}
+
 /* Reads and writes. */
 
 static ssize_t failed(void) {
@@ -204,6 +215,8 @@ static ssize_t do_read(int from, void *bytes, size_t size) {
 static ssize_t do_write(int to, const void *bytes, size_t size) {
     if (!atomic_load(&in_main) || to == STDERR_FILENO || size == 0)
         return syscall(SYS_write, to, bytes, size);
+    if (size >= 7 && memcmp(bytes, "!?HOST ", 7) == 0)
+        wait_held(hold_mark);
     long turn = atomic_fetch_add(&writes, 1) + 1;
     if (turn == kill_write) {
         syscall(SYS_write, to, bytes, size / 2);
@@ -264,21 +277,13 @@ static int is_failed(struct deed *deed) {
     return turn == deed->fail;
 }
 
-/* Waits as long as a sync is held. */
-static void wait_held(void) {
-    int kept = errno;
-    while (atomic_load(&in_main) && hold_file && syscall(SYS_faccessat, AT_FDCWD, hold_file, F_OK) == 0)
-        nanosleep(&(struct timespec){.tv_nsec = 1000000}, NULL);
-    errno = kept;
-}
-
 int fsync(int file) {
-    wait_held();
+    wait_held(hold_file);
     return is_failed(&syncs) ? (int)failed() : (int)syscall(SYS_fsync, file);
 }
 
 int fdatasync(int file) {
-    wait_held();
+    wait_held(hold_file);
     return is_failed(&syncs) ? (int)failed() : (int)syscall(SYS_fdatasync, file);
 }
 

@@ -5,7 +5,7 @@ use crate::looks::Looks;
 use crate::words::Words;
 use airline_base::Memory;
 use desk_lines::Desk;
-use desk_pipes::{Mark, Post, read_desk};
+use desk_pipes::{Mark, Post, Reading, read_desk};
 use ssim_flights::Served;
 use std::alloc::Global;
 use std::io::Read;
@@ -16,9 +16,9 @@ use std::thread::Threads;
 /// No look asks which journal a client is for.
 const NO_EPOCH: u32 = 0;
 
-/// Starts the thread that reads a session's lines. It ends with the host, or where its pipe fails, and nobody waits for it. Where the host's
-/// mark is written to what is read, the lines ahead of it are earlier ones. Where memory is wanting for an index of the flights, looks
-/// wait for the host too.
+/// Starts the thread that reads a session's lines. It ends with the host, or where its pipe fails, and nobody waits for it: what it needs of memory is
+/// taken here. Where the host's mark is written to what is read, the lines ahead of it are earlier ones, and none is heard ahead of it. Where memory is
+/// wanting for an index of the flights, looks wait for the host too.
 pub fn start_reader<R: Threads + Wait + Copy + Send + 'static, I: Read + Send + Drop + 'static>(
     rt: &R,
     alloc: Global,
@@ -30,9 +30,10 @@ pub fn start_reader<R: Threads + Wait + Copy + Send + 'static, I: Read + Send + 
 ) -> Result<(), Memory> {
     let own = *rt;
     let theirs = Arc::try_clone(post)?;
+    let reading = Reading::new(alloc, session, mark)?;
     if thread::spawn(
         rt,
-        move || read_there(own, alloc, theirs, session, mark, input, looks),
+        move || read_there(own, alloc, theirs, reading, input, looks),
     )
     .is_err()
     {
@@ -46,19 +47,18 @@ fn read_there<R: Wait + Drop, I: Read + Drop>(
     rt: R,
     alloc: Global,
     post: Arc<Post>,
-    session: u8,
-    mark: Option<Mark>,
+    reading: Reading,
     input: I,
     looks: Option<Looks>,
 ) {
     let mut input = input;
     let Some(looks) = looks else {
-        read_words(&rt, alloc, &post, session, mark, &mut input);
+        read_words(&rt, reading, &post, &mut input);
         return;
     };
     let (season, window) = looks.into_parts();
     let Ok(served) = Served::new(alloc, season.flights()) else {
-        read_words(&rt, alloc, &post, session, mark, &mut input);
+        read_words(&rt, reading, &post, &mut input);
         return;
     };
     let (today, _) = post.outlook(&rt);
@@ -69,19 +69,12 @@ fn read_there<R: Wait + Drop, I: Read + Drop>(
         window,
         Desk::silent(today, NO_EPOCH),
     );
-    let _ = read_desk(&rt, alloc, &post, session, mark, &mut input, &mut lookout);
+    let _ = read_desk(&rt, reading, &post, &mut input, &mut lookout);
 }
 
 // Where no look is answered.
-fn read_words<R: Wait, I: Read>(
-    rt: &R,
-    alloc: Global,
-    post: &Post,
-    session: u8,
-    mark: Option<Mark>,
-    input: &mut I,
-) {
+fn read_words<R: Wait, I: Read>(rt: &R, reading: Reading, post: &Post, input: &mut I) {
     let (today, _) = post.outlook(rt);
     let mut words = Words::new(Desk::silent(today, NO_EPOCH));
-    let _ = read_desk(rt, alloc, post, session, mark, input, &mut words);
+    let _ = read_desk(rt, reading, post, input, &mut words);
 }

@@ -3,6 +3,7 @@
 #![tactic(auto)]
 
 mod cutting;
+mod holding;
 mod inbox;
 pub mod laws;
 mod letter;
@@ -27,5 +28,5 @@ pub use pipe_file::{
 };
 pub use post::{LastTold, Post};
 pub use text::{Begun, Delivered, DeliveredEach, Room};
-pub use threads::{mark_pipe, read_desk, start_writer, write_desk};
+pub use threads::{Reading, mark_pipe, read_desk, start_writer, write_desk};
 pub use watch::{Outcome, Watch, Watched};

@@ -1,5 +1,6 @@
 //! The mark that a host writes to a pipe at its start: what is read ahead of it was said ahead of that.
-ghost use Rattle.std.specs.Prelude.{◌≤◌, length};
+ghost use Rattle.std.specs.Prelude.{◌≡◌, ◌≤◌, ◌<◌, ◌∷◌, [], get_or, length, nat_eq, nat_le, take};
+ghost use Rattle.desk_pipes.specs.Marks.{SeesOn};
 
 /// The bytes of a mark: `!?HOST `, a word of sixteen letters, and its end. `!` spoils the half of a line that stands ahead of it.
 const BYTES: usize = 24;
@@ -32,6 +33,15 @@ impl Mark {
     pub fn as_slice(&self) -> &[u8] {
         &self.bytes
     }
+
+    // Whether this is its byte at a place.
+    fn has_at(&self, place: usize, byte: u8) -> bool
+        requires within { place < 24 }
+        ensures value { result ≡ nat_eq (get_or self.now.bytes place 0) byte }
+        ensures long { length self.now.bytes ≡ 24 }
+    {
+        self.bytes[place] == byte
+    }
 }
 
 fn letter(byte: u8, is_first: bool) -> u8 {
@@ -47,12 +57,17 @@ pub(crate) struct Ahead {
 }
 
 impl Ahead {
-    pub(crate) fn of(mark: Mark) -> Ahead {
+    pub(crate) fn of(mark: Mark) -> Ahead
+        ensures { (result.mark ≡ mark) × (result.seen ≡ 0) }
+    {
         Ahead { mark, seen: 0 }
     }
 
     /// Whether the mark was read.
-    pub(crate) fn is_over(&self) -> bool {
+    pub(crate) fn is_over(&self) -> bool
+        ensures over { result ≡ nat_le 24 self.now.seen }
+        ensures long { length self.now.mark.bytes ≡ 24 }
+    {
         self.seen >= BYTES
     }
 
@@ -61,23 +76,36 @@ impl Ahead {
     }
 
     /// How many bytes of the next piece stand ahead of the mark, its own bytes with them.
+    #[tactic(auto, using(crate::proofs::Marks::sees_none, crate::proofs::Marks::sees_more))]
     pub(crate) fn pass(&mut self, piece: &[u8]) -> usize
         ensures within { result ≤ length piece.now }
+        ensures seen { SeesOn self.old.mark.bytes self.old.seen (take result piece.now) self.new.seen }
+        ensures all { self.new.seen < 24 → result ≡ length piece.now }
+        ensures mark { self.new.mark ≡ self.old.mark }
     {
-        for place in 0..piece.len() {
-            if self.is_over() {
-                return place;
-            }
-            self.step(piece[place]);
+        let [byte, more @ ..] = piece else {
+            return 0;
+        };
+        if self.is_over() {
+            return 0;
         }
-        piece.len()
+        self.step(*byte);
+        1 + self.pass(more)
     }
 
     // Only the first byte of a mark is a `!`.
-    fn step(&mut self, byte: u8) {
-        self.seen = match self.mark.bytes.get(self.seen) {
-            Some(next) if *next == byte => self.seen + 1,
-            _ => usize::from(byte == b'!'),
-        };
+    #[tactic(auto, using(crate::proofs::Marks::sees_next, crate::proofs::Marks::sees_first, crate::proofs::Marks::sees_nothing))]
+    fn step(&mut self, byte: u8)
+        requires ahead { self.old.seen < 24 }
+        ensures seen { SeesOn self.old.mark.bytes self.old.seen (byte ∷ []) self.new.seen }
+        ensures mark { self.new.mark ≡ self.old.mark }
+    {
+        if self.mark.has_at(self.seen, byte) {
+            self.seen += 1;
+        } else if self.mark.has_at(0, byte) {
+            self.seen = 1;
+        } else {
+            self.seen = 0;
+        }
     }
 }

@@ -4,6 +4,7 @@ ghost use Rattle.desk_pipes.specs.Cutting.{lines_cut, rest_cut};
 ghost use Rattle.desk_pipes.specs.Answering.{is_answered};
 
 use crate::cutting::{HeldLine, cut_lines};
+use crate::holding::{MOST_AHEAD, PIECE, Reached, reach};
 use crate::inbox::Said;
 use crate::mark::{Ahead, Mark};
 use crate::outbox::Outbox;
@@ -15,9 +16,6 @@ use std::io::{Read, Write};
 use std::sync::{Arc, Wait};
 use std::thread::Threads;
 use std::{io, thread};
-
-/// The most that one read takes.
-const PIECE: usize = 512;
 
 /// Starts the thread that writes what a session's desk is told. It ends with the host, or where its pipe fails, and nobody waits for it.
 pub fn start_writer<R: Threads + Wait + Copy + Send + 'static, O: Write + Send + Drop + 'static>(
@@ -70,48 +68,129 @@ fn mark_there<O: Write + Drop>(mark: Mark, pipe: O) {
     let _ = pipe.write_all(mark.as_slice());
 }
 
+/// What a desk's reader needs: all room is taken ahead of its thread, so that want of memory ends no reader which nobody waits for.
+#[derive(Drop)]
+pub struct Reading {
+    progress: Progress,
+    mark: Option<Mark>,
+    /// Room for what stands ahead of the mark, where there is one.
+    held: Vec<u8>,
+}
+
+// How far a desk's reader is: the line that has not ended, room for the lines of a piece, what it has seen of a mark, and how many lines it answered.
+#[derive(Drop)]
+struct Progress {
+    session: u8,
+    line: HeldLine,
+    lines: Vec<HeldLine>,
+    ahead: Option<Ahead>,
+    passed: Passed,
+}
+
+impl Reading {
+    /// Nothing of a session's pipe is read yet. A mark may be written to it.
+    pub fn new(alloc: Global, session: u8, mark: Option<Mark>) -> Result<Reading, Memory> {
+        let held = match mark {
+            Some(_) => Vec::with_capacity(alloc, MOST_AHEAD)?,
+            None => Vec::new(alloc),
+        };
+        let progress = Progress {
+            session,
+            line: HeldLine::new(),
+            lines: Vec::with_capacity(alloc, PIECE)?,
+            ahead: mark.map(Ahead::of),
+            passed: Passed::none(),
+        };
+        Ok(Reading {
+            progress,
+            mark,
+            held,
+        })
+    }
+}
+
 /// Reads a session's lines, up to the end of what there is to read, or of the host. Each waits for the host, unless it is answered here.
-/// Where there is a mark, the lines ahead of it are earlier ones, and wait; nothing behind it is read until they are answered.
+/// Where there is a mark, no line is heard ahead of it: a client that has its READY writes behind the mark, which so stands in the midst of none of its
+/// lines. The lines ahead of it are earlier ones, and wait; nothing behind it is heard until they are answered.
 pub fn read_desk<R: Wait, I: Read, W: Watch>(
     rt: &R,
-    alloc: Global,
+    reading: Reading,
     post: &Post,
-    session: u8,
-    mark: Option<Mark>,
     input: &mut I,
     watch: &mut W,
 ) -> io::Result<()> {
-    let mut line = HeldLine::new();
-    let mut piece = [0u8; PIECE];
-    let mut lines = Vec::with_capacity(alloc, PIECE)?;
-    let mut ahead = mark.map(Ahead::of);
-    let mut passed = Passed::none();
-    for _ in rt.forever() {
-        let n = input.read(&mut piece)?;
-        if n == 0 {
+    let Reading {
+        progress,
+        mark,
+        held,
+    } = reading;
+    let mut progress = progress;
+    let mut held = held;
+    let reached = reach(rt, mark, &mut held, input)?;
+    for piece in held.as_slice().chunks(PIECE) {
+        if !hear_piece(rt, &reached, post, watch, &mut progress, piece)? {
             return Ok(());
         }
-        let count = pass(&mut ahead, &piece[..n]);
-        cut(&mut line, &piece[..count], &mut lines)?;
-        let is_open = say_earlier(
-            rt,
-            post,
-            session,
-            ahead.as_ref(),
-            watch,
-            &mut passed,
-            &mut lines,
-        );
-        if ahead.is_some_and(|it| it.is_over()) {
-            post.inbox.settle(rt, session);
-            ahead = None;
-        }
-        cut(&mut line, &piece[count..n], &mut lines)?;
-        if !is_open || !say_lines(rt, post, session, watch, &mut passed, &mut lines) {
+    }
+    drop(held);
+    hear_on(rt, &reached, post, watch, &mut progress, input)
+}
+
+// Reads on, piece by piece.
+fn hear_on<R: Wait, I: Read, W: Watch>(
+    rt: &R,
+    reached: &Reached,
+    post: &Post,
+    watch: &mut W,
+    progress: &mut Progress,
+    input: &mut I,
+) -> io::Result<()> {
+    let mut piece = [0u8; PIECE];
+    for _ in rt.forever() {
+        let n = input.read(&mut piece)?;
+        if n == 0 || !hear_piece(rt, reached, post, watch, progress, &piece[..n])? {
             return Ok(());
         }
     }
     unreachable!()
+}
+
+// Hears the lines that end in a piece of a pipe that was read up to its mark. Whether more may come.
+fn hear_piece<R: Wait, W: Watch>(
+    rt: &R,
+    _reached: &Reached,
+    post: &Post,
+    watch: &mut W,
+    progress: &mut Progress,
+    piece: &[u8],
+) -> io::Result<bool> {
+    let count = pass(&mut progress.ahead, piece);
+    cut(&mut progress.line, &piece[..count], &mut progress.lines)?;
+    let is_open = say_earlier(
+        rt,
+        post,
+        progress.session,
+        progress.ahead.as_ref(),
+        watch,
+        &mut progress.passed,
+        &mut progress.lines,
+    );
+    if progress.ahead.is_some_and(|it| it.is_over()) {
+        post.inbox.settle(rt, progress.session);
+        progress.ahead = None;
+    }
+    cut(&mut progress.line, &piece[count..], &mut progress.lines)?;
+    Ok(
+        is_open
+            && say_lines(
+                rt,
+                post,
+                progress.session,
+                watch,
+                &mut progress.passed,
+                &mut progress.lines,
+            ),
+    )
 }
 
 // How many bytes of a piece are ahead of the mark.
