@@ -1,13 +1,15 @@
--- What holds of a row of either table holds of the first one that is found; what begins with a text goes on with it.
-use Rattle.std.proofs.Common.{◌≡◌, ⊎_elim, inl, inr, ℕ, List, [], ◌∷◌, ◌++◌, Option, Some, None, IfSome, IsTrue, sym, ap, ◌∙◌, append_assoc, append-nil}
+-- What holds of a row of either table holds of the first one that is found; what begins with a text goes on with it; what a row tells of a word.
+use Rattle.std.proofs.Common.{◌≡◌, ⊎_elim, inl, inr, ℕ, List, [], ◌∷◌, ◌++◌, Option, Some, None, IfSome, IsTrue, sym, subst, ap, ◌∙◌, append_assoc, append-nil}
 use Rattle.std.specs.Prelude.{◌⊎◌, codes}
 use Rattle.std.specs.Option.{option_or}
 use Rattle.std.specs.Str.{str_eq_ignore_ascii_case}
-use Rattle.seat_explanations.specs.Meanings.{IsMeaning, IsMeaningOf, TellsMeaning}
-use Rattle.seat_explanations.specs.Rows.{Begins, TellsOf, is_of, row_text}
+use Rattle.std.specs.String.{string_bytes}
+use Rattle.seat_explanations.specs.Meanings.{IsMeaning, IsMeaningOf, IsPlainRow, IsRowFor, IsTold, TellsMeaning}
+use Rattle.seat_explanations.specs.Rows.{Begins, is_of, row_text}
 use Rattle.seat_explanations.specs.Words.{first_word, IsLead, IsPlace, IsPlainOf, IsRoomBehind, IsUnplaced}
 use Rattle.seat_explanations.specs.declared.explanations.Explanation.{Explanation}
 use Rattle.seat_explanations.specs.declared.meaning.Meaning.{Meaning}
+use Rattle.seat_explanations.specs.declared.meaning.Meaning.TheVariants.{Found, Unknown}
 
 pub either : {X : Type 0} (P : X → Type 0) (a b : Option X) → IfSome a P → IfSome b P → IfSome (option_or a b) P
 either P None b p q = q
@@ -25,19 +27,8 @@ further a b c one two = record {
   whole = two.whole ∙ ap (λ (front : List ℕ). front ++ two.more) one.whole ∙ append_assoc a one.more two.more;
 }
 
-pub begun : (code : List ℕ) (row : Explanation) (text : List ℕ) → IsTrue (is_of code row) → text ≡ row_text row → TellsOf code text
-begun code row text of whole = record {
-  row = row;
-  of = of;
-  begins = longer (row_text row) [] text (whole ∙ sym (append-nil (row_text row)));
-}
-
-pub told_further : (code old new : List ℕ) → TellsOf code old → Begins old new → TellsOf code new
-told_further code old new tells goes = record {
-  row = tells.row;
-  of = tells.of;
-  begins = further (row_text tells.row) old new tells.begins goes;
-}
+pub begun_with : (front old new : List ℕ) → old ≡ front → Begins old new → Begins front new
+begun_with front old new is begins = subst (λ (text : List ℕ). Begins text new) is begins
 
 pub is_place : (word number : List ℕ) → word ≡ number ++ 58 ∷ [] → IsPlace word
 is_place word number is = record { number = number; is = is }
@@ -49,32 +40,50 @@ pub is_room : (word rest room : List ℕ) (class : ℕ) → word ≡ class ∷ r
     → IsRoomBehind word room
 is_room word rest room class is same closed = record { class = class; rest = rest; is = is; same = same; closed = closed }
 
--- the row of a code
-pub told_code : (code : List ℕ) (row : Explanation) (text : List ℕ) → IsTrue (is_of code row) → text ≡ row_text row → TellsMeaning code text
-told_code code row text of whole = record { either = inl (begun code row text of whole) }
+pub row_itself : (word : List ℕ) (row : Explanation) → IsTrue (is_of word row) → IsRowFor word row
+row_itself word row of = record { either = inl of }
 
--- and what stands behind it
-pub told_code_on : (code : List ℕ) (row : Explanation) (old new : List ℕ) → IsTrue (is_of code row) → old ≡ row_text row → Begins old new
-    → TellsMeaning code new
-told_code_on code row old new of whole goes = record { either = inl (told_further code old new (begun code row old of whole) goes) }
+pub row_of_note : (word : List ℕ) (row : Explanation) → IsTrue (is_of (codes "note") row) → IsRowFor word row
+row_of_note word row of = record { either = inr (inl of) }
 
--- the row of a note
-pub told_reason : (word : List ℕ) (row : Explanation) (text : List ℕ) → IsTrue (is_of (codes "note") row) → text ≡ row_text row
+pub row_or_note : (word : List ℕ) (row : Explanation) → IsTrue (is_of word row) ⊎ IsTrue (is_of (codes "note") row) → IsRowFor word row
+row_or_note word row of =
+    ⊎_elim (λ (h : IsTrue (is_of word row)). row_itself word row h)
+    (λ (h : IsTrue (is_of (codes "note") row)). row_of_note word row h) of
+
+-- of a word to a host, or of a reply's code
+pub row_plainly : (word plain : List ℕ) (found : Option Explanation) → IsPlainOf word plain → IfSome found (λ row. IsTrue (is_of plain row))
+    → IfSome found (λ row. IsRowFor word row)
+row_plainly word plain None is of = of
+row_plainly word plain (Some row) is of = record { either = inr (inr (record { plain = plain; is_plain = is; of = of })) }
+
+told_itself : (word : List ℕ) (row : Explanation) (text : List ℕ) → IsTrue (is_of word row) → Begins (row_text row) text → TellsMeaning word text
+told_itself word row text of begins = record { either = inl (record { row = row; of = of; begins = begins }) }
+
+told_note : (word : List ℕ) (row : Explanation) (text : List ℕ) → IsTrue (is_of (codes "note") row) → Begins (row_text row) text
     → TellsMeaning word text
-told_reason word row text of whole = record { either = inr (inl (begun (codes "note") row text of whole)) }
+told_note word row text of begins = record { either = inr (inl (record { row = row; of = of; begins = begins })) }
 
-pub told_note : (word : List ℕ) (row : Explanation) (text : List ℕ) → IsTrue (is_of word row) ⊎ IsTrue (is_of (codes "note") row)
-    → text ≡ row_text row → TellsMeaning word text
-told_note word row text of whole =
-    ⊎_elim (λ (h : IsTrue (is_of word row)). told_code word row text h whole)
-    (λ (h : IsTrue (is_of (codes "note") row)). told_reason word row text h whole) of
-
--- the row of a word to a host, or of a reply's code
-pub told_plainly : (word plain : List ℕ) (row : Explanation) (text : List ℕ) → IsPlainOf word plain → IsTrue (is_of plain row)
-    → text ≡ row_text row → TellsMeaning word text
-told_plainly word plain row text is of whole = record {
-  either = inr (inr (record { plain = plain; is_plain = is; tells = begun plain row text of whole }));
+told_plainly : (word : List ℕ) (row : Explanation) (text : List ℕ) → IsPlainRow word row → Begins (row_text row) text → TellsMeaning word text
+told_plainly word row text is begins = record {
+  either = inr (inr (record { plain = is.plain; is_plain = is.is_plain; tells = record { row = row; of = is.of; begins = begins } }));
 }
+
+told_other : (word : List ℕ) (row : Explanation) (text : List ℕ) → IsTrue (is_of (codes "note") row) ⊎ IsPlainRow word row
+    → Begins (row_text row) text → TellsMeaning word text
+told_other word row text either begins =
+    ⊎_elim (λ (h : IsTrue (is_of (codes "note") row)). told_note word row text h begins)
+    (λ (h : IsPlainRow word row). told_plainly word row text h begins) either
+
+-- what begins with such a row tells of the word
+told_row : (word : List ℕ) (row : Explanation) (text : List ℕ) → IsRowFor word row → Begins (row_text row) text → TellsMeaning word text
+told_row word row text is begins =
+    ⊎_elim (λ (h : IsTrue (is_of word row)). told_itself word row text h begins)
+    (λ (h : IsTrue (is_of (codes "note") row) ⊎ IsPlainRow word row). told_other word row text h begins) is.either
+
+pub told_by : (word : List ℕ) (row : Explanation) (meaning : Meaning) → IsRowFor word row → IsTold row meaning → IsMeaning word meaning
+told_by word row (Found text) is begins = told_row word row (string_bytes text) is begins
+told_by word row (Unknown other) is told = tt
 
 pub meaning_of_rest : (line rest : List (List ℕ)) (meaning : Meaning) → IsUnplaced line rest → IsMeaning (first_word rest) meaning
     → IsMeaningOf line meaning

@@ -1,29 +1,18 @@
-//! What the numbers behind a code count.
+//! What the numbers behind a code count: none, one or two things, by their names with a comma between them.
 
-pub(crate) const NONE: &[&str] = &[];
-
-pub(crate) const RECORD: &[&str] = &["record"];
-
-pub(crate) const SERIAL: &[&str] = &["record with the serial number"];
-
-pub(crate) const LINE: &[&str] = &["line"];
-
-pub(crate) const ENTRY: &[&str] = &["entry"];
-
-pub(crate) const SCRIPT: &[&str] = &["script", "line"];
-
-pub(crate) const DESK: &[&str] = &["desk", "line"];
-
-pub(crate) const FED: &[&str] = &["line of the feed"];
+/// Of a row of changes that a host was sent.
+pub(crate) const DESK: &str = "desk,line";
 
 /// What is counted by its name, and not by a number: a key that a season has.
 pub(crate) const NAMED_KEY: &str = "key";
 
-pub(crate) const KEY: &[&str] = &[NAMED_KEY];
-
 /// A key that no season has, which may be any text.
 pub(crate) const OTHER_KEY: &str = "other key";
 
-pub(crate) const OTHER: &[&str] = &[OTHER_KEY];
+/// The keys that a season may have.
+pub(crate) const KEYS: &[&str] = &["set", "limits", "first", "days", "journal", "desks"];
 
-pub(crate) const CALL: &[&str] = &["desk", "call of that session"];
+/// The names of what is counted. The empty text stands for nothing.
+pub(crate) fn names_of(counted: &str) -> (&str, &str) {
+    counted.split_once(',').unwrap_or((counted, ""))
+}

@@ -1,48 +1,32 @@
-//! What each fault line means, and each note, in one table.
-//! It knows the codes that the program prints, and nothing of the faults behind them.
+//! What one code means, and the search for it in the tables of texts.
+//! It knows how a table is written, and nothing of the faults behind its codes.
 ghost use Rattle.std.specs.Prelude.{◌⊎◌, IfSome, IsTrue, codes};
 ghost use Rattle.seat_explanations.specs.Rows.{is_of};
 
-use crate::carries::CARRIES;
-use crate::journals::{ENTRIES, JOURNALS};
-use crate::limits::{LADDERS, LIMITS};
-use crate::notes::{NOTES, REASONS};
-use crate::options::WORDS;
-use crate::partners::{LISTS, THRESHOLDS};
-use crate::schedules::{FLIGHTS, RECORDS, RECORDS_ON};
-use crate::scripts::{SCRIPTS, SEGMENTS};
-use crate::sealed::SEALS;
-use crate::seasons::SEASONS;
+use crate::answers::ANSWERS;
+use crate::asked::ASKED;
+use crate::behind::BEHIND;
+use crate::faults::FAULTS;
+use crate::notes::{KEPT, NOTES, REASONS};
+use crate::replies::REPLIES;
 
 /// What one code means.
+#[derive(Clone, Copy)]
 pub struct Explanation {
-    /// The code ahead of it in a fault line, or nothing where it stands first.
-    pub behind: &'static str,
     pub code: &'static str,
-    /// What the numbers behind it count, in order, with the codes behind it passed over.
-    pub numbers: &'static [&'static str],
+    /// What the numbers behind it count, in order, with the codes behind it passed over: up to two names, which a comma divides.
+    pub numbers: &'static str,
     /// What is wrong, and what helps: lines without the last one's end.
     pub text: &'static str,
 }
 
-/// The row of a code that stands behind another, or first where that is the empty text. Small letters stand for capitals.
+/// The row of a code that stands behind another. Small letters stand for capitals.
 #[tactic(auto, using(crate::proofs::Rows::either))]
-pub fn row_behind(behind: &str, code: &str) -> Option<&'static Explanation>
-    ensures { IfSome result (λ row. IsTrue (is_of code.now row.now)) }
+pub fn row_behind(behind: &str, code: &str) -> Option<Explanation>
+    ensures { IfSome result (λ row. IsTrue (is_of code.now row)) }
 {
-    first_behind(records(), behind, code)
-        .or(first_behind(records_on(), behind, code))
-        .or(first_behind(flights(), behind, code))
-        .or(first_behind(limits(), behind, code))
-        .or(first_behind(ladders(), behind, code))
-        .or(first_behind(scripts(), behind, code))
-        .or(first_behind(segments(), ahead_of_segments(behind), code))
-        .or(first_behind(journals(), behind, code))
-        .or(first_behind(entries(), behind, code))
-        .or(first_behind(seals(), behind, code))
-        .or(first_behind(carries(), behind, code))
-        .or(first_behind(words(), behind, code))
-        .or(first_behind(seasons(), behind, code))
+    let behind = &[ahead_of_segments(behind)];
+    first_among(faults(), behind, code).or(first_among(words_behind(), behind, code))
 }
 
 /// The code ahead of what is wrong in a segment line: of a partner's list it is T2, and the rows are those of a script, behind Q2.
@@ -56,137 +40,117 @@ pub fn is_listed(code: &str) -> bool {
 }
 
 /// The row of a code, wherever it stands: a letter with its number, or a word that stands first.
-#[tactic(auto, using(crate::proofs::Rows::either))]
-pub fn row_of(code: &str) -> Option<&'static Explanation>
-    ensures { IfSome result (λ row. IsTrue (is_of code.now row.now)) }
+pub fn row_of(code: &str) -> Option<Explanation>
+    ensures { IfSome result (λ row. IsTrue (is_of code.now row)) }
 {
-    first_of(records(), code)
-        .or(first_of(records_on(), code))
-        .or(first_of(flights(), code))
-        .or(first_of(limits(), code))
-        .or(first_of(ladders(), code))
-        .or(first_of(scripts(), code))
-        .or(first_of(segments(), code))
-        .or(first_of(journals(), code))
-        .or(first_of(entries(), code))
-        .or(first_of(seals(), code))
-        .or(first_of(carries(), code))
-        .or(first_of(words(), code))
-        .or(first_of(seasons(), code))
-        .or(first_of(lists(), code))
-        .or(first_of(thresholds(), code))
+    first_named(faults(), code)
+}
+
+/// The row of a word of an answer, in small letters or capitals.
+pub fn answer_row(word: &str) -> Option<Explanation>
+    ensures { IfSome result (λ row. IsTrue (is_of word.now row)) }
+{
+    first_named(ANSWERS, word)
+}
+
+/// The row of a word to a host, without the ? ahead of it, or of the room of a closed class, without the class.
+pub fn asked_row(word: &str) -> Option<Explanation>
+    ensures { IfSome result (λ row. IsTrue (is_of word.now row)) }
+{
+    first_named(ASKED, word)
+}
+
+/// The row of a reply's code.
+pub fn reply_row(code: &str) -> Option<Explanation>
+    ensures { IfSome result (λ row. IsTrue (is_of code.now row)) }
+{
+    first_named(REPLIES, code)
 }
 
 /// The row of a line that is no fault, which says what was kept, or is a note: by a word that the note has.
-pub fn row_of_note(code: &str, words: &[&str]) -> Option<&'static Explanation>
-    ensures { IfSome result (λ row. IsTrue (is_of code.now row.now) ⊎ IsTrue (is_of (codes "note") row.now)) }
+#[tactic(auto, using(crate::proofs::Rows::either))]
+pub fn row_of_note(code: &str, words: &[&str]) -> Option<Explanation>
+    ensures { IfSome result (λ row. IsTrue (is_of code.now row) ⊎ IsTrue (is_of (codes "note") row)) }
 {
     let code = match code {
         "note:" => "note",
         _ => code,
     };
-    notes().iter().find(|row| row.code.eq_ignore_ascii_case(code)
-        && (row.behind.is_empty() || has_word(words, row.behind)))
-}
-
-/// Whether a code is that of a row of limits or of changes.
-pub fn is_of_rows(code: &str) -> bool {
-    first_of(limits(), code).is_some()
+    first_among(NOTES, words, code).or(first_named(KEPT, code))
 }
 
 /// The row of why a file may not be what it is named for: by a word of that.
-pub fn row_of_reason(words: &[&str]) -> Option<&'static Explanation>
-    ensures { IfSome result (λ row. IsTrue (is_of (codes "note") row.now)) }
+pub fn row_of_reason(words: &[&str]) -> Option<Explanation>
+    ensures { IfSome result (λ row. IsTrue (is_of (codes "note") row)) }
 {
-    reasons().iter().find(|row| row.code.eq_ignore_ascii_case("note")
-        && has_word(words, row.behind))
+    first_among(REASONS, words, "note")
 }
 
-fn has_word(words: &[&str], wanted: &str) -> bool {
+/// Whether a word is among others, in small letters or capitals.
+pub fn has_word(words: &[&str], wanted: &str) -> bool {
     words.iter().any(|word| word.eq_ignore_ascii_case(wanted))
 }
 
-fn first_behind<'a>(rows: &'a [Explanation], behind: &str, code: &str) -> Option<&'a Explanation>
-    ensures { IfSome result (λ row. IsTrue (is_of code.now row.now)) }
+/// The first row of a table that is of this code, wherever it stands.
+fn first_named(table: &'static str, code: &str) -> Option<Explanation>
+    ensures { IfSome result (λ row. IsTrue (is_of code.now row)) }
 {
-    rows.iter().find(|row| row.behind.eq_ignore_ascii_case(behind)
-        && row.code.eq_ignore_ascii_case(code))
+    first_in(table, None, code)
 }
 
-fn first_of<'a>(rows: &'a [Explanation], code: &str) -> Option<&'a Explanation>
-    ensures { IfSome result (λ row. IsTrue (is_of code.now row.now)) }
+/// The first row of a table that is of this code and stands behind one of these words.
+fn first_among(table: &'static str, words: &[&str], code: &str) -> Option<Explanation>
+    ensures { IfSome result (λ row. IsTrue (is_of code.now row)) }
 {
-    rows.iter().find(|row| row.code.eq_ignore_ascii_case(code)
-        && row.behind != "E2"
-        && row.behind != "SEAL"
-        && row.behind != "CARRY"
-        && row.behind != "SEASON")
+    first_in(table, Some(words), code)
 }
 
-fn records() -> &'static [Explanation] {
-    RECORDS
+fn first_in(table: &'static str, ahead: Option<&[&str]>, code: &str) -> Option<Explanation>
+    ensures { IfSome result (λ row. IsTrue (is_of code.now row)) }
+{
+    for part in table.split('#') {
+        if let Some(row) = row_if(part, ahead, code) {
+            return Some(row);
+        }
+    }
+    None
 }
 
-fn records_on() -> &'static [Explanation] {
-    RECORDS_ON
+/// The row that a part of a table is, where it is of this code and stands behind one of these words, or anywhere where there are none.
+/// A part begins with a line of what stands ahead of the code, or of a word that a note has, the code, and what its numbers count, divided by |.
+fn row_if(part: &'static str, ahead: Option<&[&str]>, code: &str) -> Option<Explanation>
+    ensures { IfSome result (λ row. IsTrue (is_of code.now row)) }
+{
+    let (word, rest) = part.split_once('|')?;
+    let row = row_in(rest)?;
+    if row.code.eq_ignore_ascii_case(code) && stands_behind(word, ahead) {
+        Some(row)
+    } else {
+        None
+    }
 }
 
-fn flights() -> &'static [Explanation] {
-    FLIGHTS
+fn stands_behind(word: &str, ahead: Option<&[&str]>) -> bool {
+    match ahead {
+        Some(words) => has_word(words, word),
+        None => true,
+    }
 }
 
-fn limits() -> &'static [Explanation] {
-    LIMITS
+fn row_in(rest: &'static str) -> Option<Explanation> {
+    let (code, rest) = rest.split_once('|')?;
+    let (numbers, text) = rest.split_once('\n')?;
+    Some(Explanation {
+        code,
+        numbers,
+        text: text.trim_end(),
+    })
 }
 
-fn ladders() -> &'static [Explanation] {
-    LADDERS
+fn faults() -> &'static str {
+    FAULTS
 }
 
-fn scripts() -> &'static [Explanation] {
-    SCRIPTS
-}
-
-fn segments() -> &'static [Explanation] {
-    SEGMENTS
-}
-
-fn journals() -> &'static [Explanation] {
-    JOURNALS
-}
-
-fn entries() -> &'static [Explanation] {
-    ENTRIES
-}
-
-fn lists() -> &'static [Explanation] {
-    LISTS
-}
-
-fn thresholds() -> &'static [Explanation] {
-    THRESHOLDS
-}
-
-fn seasons() -> &'static [Explanation] {
-    SEASONS
-}
-
-fn seals() -> &'static [Explanation] {
-    SEALS
-}
-
-fn carries() -> &'static [Explanation] {
-    CARRIES
-}
-
-fn words() -> &'static [Explanation] {
-    WORDS
-}
-
-fn notes() -> &'static [Explanation] {
-    NOTES
-}
-
-fn reasons() -> &'static [Explanation] {
-    REASONS
+fn words_behind() -> &'static str {
+    BEHIND
 }

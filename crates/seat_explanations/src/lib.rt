@@ -4,19 +4,13 @@
 
 mod answers;
 mod asked;
-mod carries;
+mod behind;
 mod counted;
 mod explanations;
-mod journals;
-mod limits;
+mod faults;
 mod meaning;
 mod notes;
-mod options;
-mod partners;
 mod replies;
-mod schedules;
-mod scripts;
-mod sealed;
-mod seasons;
+mod told;
 
 pub use meaning::{Meaning, meaning_of};
