@@ -1,5 +1,6 @@
 -- What the reading of the matches cites.
-use Rattle.std.proofs.Common.{◌≡◌, ◌∙◌, ap, sym, Bool, true, false, Some, None, Option, List, Box, is_some, option_map, unwrap_or, [], codes}
+use Rattle.std.proofs.Common.{◌≡◌, ◌∙◌, ap, refl, sym, subst, Bool, true, false, Some, None, Option, List, Box, IfOk, Result, is_some, option_map, unwrap_or, [], ◌∷◌, codes}
+use Rattle.std.proofs.lemmas.Slice.Eq.{bytes_eq-Decides}
 use Rattle.std.specs.Box.{box_value}
 use Rattle.std.specs.Str.{bytes_eq}
 use Rattle.std.specs.Option.{option_map_or}
@@ -8,7 +9,10 @@ use Rattle.clap.specs.declared.parser.matches.Found.{Found}
 use Rattle.clap.specs.declared.parser.matches.SubCommand.{SubCommand}
 use Rattle.clap.specs.declared.parser.matches.ArgMatches.TheViews.{out-SubCommand}
 use Rattle.clap.proofs.WalkLemmas.{first_value-rows, raw_values-rows}
-use Rattle.seat_words.specs.Jobs.{is_answerable, is_flagged}
+use Rattle.seat_words.specs.Jobs.{Asks, has_values, is_answerable, is_complete, is_flagged, all_named, first_named, named_by, values_of, word_of}
+use Rattle.seat_words.specs.declared.job.Job.{Job}
+use Rattle.seat_words.specs.declared.naming.Named.{Named}
+use Rattle.seat_words.proofs.Found.{cases}
 
 -- a value that was got is the one in the rows
 pub some_text : (f : Found) (id t : Text) → Some t ≡ first_value f id → first_of id (rows_of f) ≡ Some t
@@ -59,3 +63,38 @@ module _ {Z : Type 0} where
       → Some rows ≡ option_map (λ p. p.1) (subcommand_rows sub) → subcommand_rows sub ≡ Some (name, rows)
   line_found None name rows e f = cc
   line_found (Some b) name rows e f = cc
+
+-- ---- the command that a name is of
+
+-- the word of a command that was found is the name
+named_first : (commands : List Named) (name : Text) (command : Named) → Some command ≡ first_named name commands
+    → word_of command ≡ name
+named_first [] name command e = cc
+named_first (x ∷ xs) name command e =
+    cases (bytes_eq name (word_of x)) (bytes_eq name (word_of x)) refl
+    (λ h. let found : Some command ≡ Some x = (rw h at e) in
+    let same : command ≡ x = cc in
+    ap word_of same ∙ sym ((bytes_eq-Decides name (word_of x)).0 h))
+    (λ h. named_first xs name command (rw h at e))
+
+pub named_right : (name : Text) (command : Named) → Some command ≡ named_by name → word_of command ≡ name
+named_right name command e = named_first all_named name command e
+
+-- what is said of its job by its word is so by the name
+pub asked_by_name : {E : Type 0} (name : Text) (rows : List Row) (command : Named) (job : Result Job E)
+    → Some command ≡ named_by name → IfOk job (λ j. Asks j (word_of command, rows))
+    → IfOk job (λ j. Asks j (name, rows))
+asked_by_name name rows command job e asks =
+    subst (λ (word : Text). IfOk job (λ j. Asks j (word, rows))) (named_right name command e) asks
+
+abbrev has_all : List Row → Option Named → Bool
+has_all rows found = option_map_or (λ command. has_values (values_of command) rows) found false
+
+-- a line that is complete has the values of the command that was found, and one was
+pub values_there : (name : Text) (rows : List Row) (command : Named) → Some command ≡ named_by name
+    → is_complete (name, rows) ≡ true → has_values (values_of command) rows ≡ true
+values_there name rows command e h = subst (λ (found : Option Named). has_all rows found ≡ true) (sym e) h
+
+pub is_named : (name : Text) (rows : List Row) → None ≡ named_by name
+    → is_complete (name, rows) ≡ true → ⊥
+is_named name rows e h = let bad : false ≡ true = subst (λ (found : Option Named). has_all rows found ≡ true) (sym e) h in cc

@@ -1,5 +1,5 @@
 -- What a job says of the words that it was read from.
-use Rattle.std.specs.Prelude.{◌≡◌, ◌||◌, Bool, List, [], ◌∷◌, ◌++◌, Option, Some, codes, find, is_some, false, unwrap_or}
+use Rattle.std.specs.Prelude.{◌≡◌, ◌||◌, Bool, List, [], ◌∷◌, ◌++◌, Option, None, Some, codes, if◌then◌else◌, is_some, false, unwrap_or}
 use Rattle.std.specs.Str.{bytes_eq}
 use Rattle.std.specs.List.{list_all}
 use Rattle.std.specs.Option.{option_map, option_map_or}
@@ -25,6 +25,9 @@ use Rattle.seat_words.specs.declared.work.ChangesJob.{ChangesJob}
 use Rattle.seat_words.specs.declared.work.AuditJob.{AuditJob}
 use Rattle.seat_words.specs.declared.work.RepliesJob.{RepliesJob}
 use Rattle.seat_words.specs.declared.work.ToldJob.{ToldJob}
+use Rattle.seat_words.specs.declared.naming.Name.{Name}
+use Rattle.seat_words.specs.declared.naming.Named.{Named}
+use Rattle.seat_words.specs.declared.naming.Named.TheVariants as named
 use Rattle.seat_words.specs.declared.job.Job.TheVariants.{Ladder, Check, Flights, Cover, Rooms, Loads, Run, Serve, Route, Bookings, Waiting, Pickup, History, Avs, Reconcile, Compare, Carry, Changes, Audit, Seal, Recover, Replies, Told, Why, Explain, Season}
 
 -- a command that clap found in the words, and what it found of the command's values
@@ -298,55 +301,88 @@ Asks (Season set limits) line = (line.0 ≡ codes "season")
 abbrev pub horizon_values : List Text
 horizon_values = codes "set" ∷ codes "limits" ∷ codes "first" ∷ codes "days" ∷ []
 
--- the values that each command on a journal and what stands beside it asks for, and each of the last commands
-abbrev pub journal_values : List (Text × List Text)
-journal_values = (codes "audit", horizon_values ++ codes "journal" ∷ [])
-    ∷ (codes "seal", horizon_values ++ codes "journal" ∷ [])
-    ∷ (codes "recover", horizon_values ++ codes "journal" ∷ [])
-    ∷ (codes "replies", horizon_values ++ codes "today" ∷ codes "journal" ∷ [])
-    ∷ (codes "told", horizon_values ++ codes "desk" ∷ codes "journal" ∷ [])
-    ∷ (codes "why", horizon_values ++ codes "line" ∷ codes "journal" ∷ [])
-    ∷ (codes "explain", codes "code" ∷ [])
-    ∷ (codes "season", codes "set" ∷ codes "limits" ∷ [])
-    ∷ []
-
--- ahead of them those of each command that asks what a journal comes to, or carries it to another season
-abbrev pub asking_values : List (Text × List Text)
-asking_values = (codes "bookings", horizon_values ++ codes "journal" ∷ [])
-    ∷ (codes "waiting", horizon_values ++ codes "journal" ∷ [])
-    ∷ (codes "pickup", horizon_values ++ codes "journal" ∷ [])
-    ∷ (codes "history", horizon_values ++ codes "journal" ∷ [])
-    ∷ (codes "avs", horizon_values ++ codes "journal" ∷ [])
-    ∷ (codes "reconcile", horizon_values ++ codes "theirs" ∷ codes "journal" ∷ [])
-    ∷ (codes "compare", codes "from" ∷ codes "to" ∷ [])
-    ∷ (codes "carry", codes "from" ∷ codes "to" ∷ codes "today" ∷ codes "journal" ∷ codes "carried" ∷ [])
-    ∷ (codes "changes", horizon_values ++ codes "to" ∷ codes "journal" ∷ [])
-    ∷ journal_values
-
 -- the values that each command asks for
-abbrev pub asked_values : List (Text × List Text)
-asked_values = (codes "ladder", [])
-    ∷ (codes "check", codes "set" ∷ [])
-    ∷ (codes "flights", codes "first" ∷ codes "days" ∷ codes "set" ∷ [])
-    ∷ (codes "cover", horizon_values)
-    ∷ (codes "rooms", horizon_values)
-    ∷ (codes "loads", horizon_values)
-    ∷ (codes "run", horizon_values ++ codes "today" ∷ codes "journal" ∷ [])
-    ∷ (codes "serve", horizon_values ++ codes "journal" ∷ [])
-    ∷ (codes "route", codes "shards" ∷ [])
-    ∷ asking_values
+abbrev pub values_of : Named → List Text
+values_of named.Ladder = []
+values_of named.Check = codes "set" ∷ []
+values_of named.Flights = codes "first" ∷ codes "days" ∷ codes "set" ∷ []
+values_of named.Cover = horizon_values
+values_of named.Rooms = horizon_values
+values_of named.Loads = horizon_values
+values_of named.Run = horizon_values ++ codes "today" ∷ codes "journal" ∷ []
+values_of named.Serve = horizon_values ++ codes "journal" ∷ []
+values_of named.Route = codes "shards" ∷ []
+values_of named.Bookings = horizon_values ++ codes "journal" ∷ []
+values_of named.Waiting = horizon_values ++ codes "journal" ∷ []
+values_of named.Pickup = horizon_values ++ codes "journal" ∷ []
+values_of named.History = horizon_values ++ codes "journal" ∷ []
+values_of named.Avs = horizon_values ++ codes "journal" ∷ []
+values_of named.Reconcile = horizon_values ++ codes "theirs" ∷ codes "journal" ∷ []
+values_of named.Compare = codes "from" ∷ codes "to" ∷ []
+values_of named.Carry = codes "from" ∷ codes "to" ∷ codes "today" ∷ codes "journal" ∷ codes "carried" ∷ []
+values_of named.Changes = horizon_values ++ codes "to" ∷ codes "journal" ∷ []
+values_of named.Audit = horizon_values ++ codes "journal" ∷ []
+values_of named.Seal = horizon_values ++ codes "journal" ∷ []
+values_of named.Recover = horizon_values ++ codes "journal" ∷ []
+values_of named.Replies = horizon_values ++ codes "today" ∷ codes "journal" ∷ []
+values_of named.Told = horizon_values ++ codes "desk" ∷ codes "journal" ∷ []
+values_of named.Why = horizon_values ++ codes "line" ∷ codes "journal" ∷ []
+values_of named.Explain = codes "code" ∷ []
+values_of named.Season = codes "set" ∷ codes "limits" ∷ []
+
+-- the name of each command
+abbrev pub word_of : Named → Text
+word_of named.Ladder = codes "ladder"
+word_of named.Check = codes "check"
+word_of named.Flights = codes "flights"
+word_of named.Cover = codes "cover"
+word_of named.Rooms = codes "rooms"
+word_of named.Loads = codes "loads"
+word_of named.Run = codes "run"
+word_of named.Serve = codes "serve"
+word_of named.Route = codes "route"
+word_of named.Bookings = codes "bookings"
+word_of named.Waiting = codes "waiting"
+word_of named.Pickup = codes "pickup"
+word_of named.History = codes "history"
+word_of named.Avs = codes "avs"
+word_of named.Reconcile = codes "reconcile"
+word_of named.Compare = codes "compare"
+word_of named.Carry = codes "carry"
+word_of named.Changes = codes "changes"
+word_of named.Audit = codes "audit"
+word_of named.Seal = codes "seal"
+word_of named.Recover = codes "recover"
+word_of named.Replies = codes "replies"
+word_of named.Told = codes "told"
+word_of named.Why = codes "why"
+word_of named.Explain = codes "explain"
+word_of named.Season = codes "season"
+
+-- the commands of the program
+abbrev pub all_named : List Named
+all_named = named.Ladder ∷ named.Check ∷ named.Flights ∷ named.Cover ∷ named.Rooms ∷ named.Loads ∷ named.Run ∷ named.Serve ∷ named.Route ∷ named.Bookings ∷ named.Waiting ∷ named.Pickup ∷ named.History ∷ named.Avs ∷ named.Reconcile ∷ named.Compare ∷ named.Carry ∷ named.Changes ∷ named.Audit ∷ named.Seal ∷ named.Recover ∷ named.Replies ∷ named.Told ∷ named.Why ∷ named.Explain ∷ named.Season ∷ []
+
+-- the first of these commands that has this name
+abbrev pub first_named : Text → List Named → Option Named
+first_named word [] = None
+first_named word (command ∷ more) = if bytes_eq word (word_of command) then Some command else first_named word more
+
+-- the command of this name
+abbrev pub named_by : Text → Option Named
+named_by word = first_named word all_named
+
+-- and so of commands that have their names beside them
+abbrev pub named_among : Text → List Name → Option Named
+named_among word [] = None
+named_among word (name ∷ more) = if bytes_eq word name.word.now then Some name.named else named_among word more
 
 abbrev pub has_values : List Text → List Row → Bool
 has_values ids rows = list_all (λ id. is_some (first_of id rows)) ids
 
--- the line is of one of these commands, and has each value that the command asks for
-abbrev pub is_complete_of : List (Text × List Text) → Line → Bool
-is_complete_of commands line = option_map_or (λ asked. has_values asked.1 line.1)
-    (find (λ asked. bytes_eq line.0 asked.0) commands) false
-
--- and so of one of all commands
+-- the line is of a command, and has each value that the command asks for
 abbrev pub is_complete : Line → Bool
-is_complete = is_complete_of asked_values
+is_complete line = option_map_or (λ command. has_values (values_of command) line.1) (named_by line.0) false
 
 -- clap found such a line
 abbrev pub is_answerable : Option Line → Bool

@@ -4,9 +4,11 @@ ghost use Rattle.clap.specs.Walk.{texts};
 ghost use Rattle.clap.specs.Words.{FailsBy, all_of, fault_of, first_of, found_of, kind_of, matches_of, rows_of, subcommand_of, subcommand_rows_of, takes};
 ghost use Rattle.clap.specs.declared.error.kind.ErrorKind.TheVariants.{ArgumentConflict, InvalidValue, OutOfMemory};
 ghost use Rattle.seat_words.specs.CommandLine.{seatdesk_app};
-ghost use Rattle.seat_words.specs.Jobs.{Asks, IsAudit, IsAvs, IsBookings, IsCarry, IsChanges, IsCompare, IsCover, IsHistory, IsLoads, IsOver, IsPickup, IsReconcile, IsReplies, IsRooms, IsRoute, IsRun, IsServe, IsShaped, IsTold, IsWaiting, asking_values, has_values, horizon_values, is_answerable, is_complete, is_complete_of, is_flagged, is_quiet, is_switched, is_verbose, journal_values};
+ghost use Rattle.seat_words.specs.Jobs.{Asks, IsAvs, IsChanges, IsCompare, IsCover, IsHistory, IsOver, IsPickup, IsReconcile, IsRooms, IsShaped, IsTold, has_values, horizon_values, is_answerable, is_complete, is_flagged, is_quiet, is_switched, is_verbose, values_of, word_of};
+ghost use Rattle.seat_words.specs.declared.naming.Named.TheVariants as named;
 
 use super::commands::seatdesk_command;
+use super::naming::{Named, named_by};
 use super::several::Several;
 use super::work::{
     AuditJob, AvsJob, BookingsJob, CarryJob, ChangesJob, CompareJob, CoverJob, HistoryJob, Horizon,
@@ -176,97 +178,134 @@ fn job_of<'a>(alloc: Global, matches: &ArgMatches<'a>) -> Result<Job<'a>, AllocE
     job_named(alloc, name, inner)
 }
 
-// A command that works on a schedule, on one leg, on a host or on scripts, or one of the others.
+// The command that was named.
+#[tactic(auto, using(crate::proofs::Lines::is_named))]
 fn job_named<'a>(alloc: Global, name: &str, matches: &ArgMatches<'a>) -> Result<Job<'a>, AllocError>
     requires { is_complete (name.now, rows_of (found_of matches.now)) ≡ true }
     ensures { IfOk result (λ job. Asks job (name.now, rows_of (found_of matches.now))) }
 {
-    match name {
-        "ladder" => Ok(Job::Ladder),
-        "check" => Ok(Job::Check {
-            set: value_of(matches, "set"),
-        }),
-        "flights" => Ok(Job::Flights {
-            set: value_of(matches, "set"),
-            first: value_of(matches, "first"),
-            days: value_of(matches, "days"),
-            shape: shape_of(matches),
-        }),
-        "cover" => Ok(Job::Cover(cover_asked(matches))),
-        "rooms" => Ok(Job::Rooms(rooms_asked(matches))),
-        "loads" => Ok(Job::Loads(loads_asked(alloc, matches)?)),
-        "run" => Ok(Job::Run(run_asked(alloc, matches)?)),
-        "serve" => Ok(Job::Serve(serve_asked(alloc, matches)?)),
-        "route" => Ok(Job::Route(route_asked(alloc, matches)?)),
-        _ => asking_job(alloc, name, matches),
+    match named_by(name) {
+        Some(command) => job_of_command(alloc, command, matches),
+        None => unreachable!(),
     }
 }
 
-// A command that asks what a journal comes to or carries it to another season, or one that is named behind these.
-fn asking_job<'a>(
+// The job of a command, with the values that are there of it.
+fn job_of_command<'a>(
     alloc: Global,
-    name: &str,
+    command: Named,
     matches: &ArgMatches<'a>,
 ) -> Result<Job<'a>, AllocError>
-    requires { is_complete_of asking_values (name.now, rows_of (found_of matches.now)) ≡ true }
-    ensures { IfOk result (λ job. Asks job (name.now, rows_of (found_of matches.now))) }
+    requires { has_values (values_of command) (rows_of (found_of matches.now)) ≡ true }
+    ensures { IfOk result (λ job. Asks job (word_of command, rows_of (found_of matches.now))) }
 {
-    match name {
-        "bookings" => Ok(Job::Bookings(bookings_asked(alloc, matches)?)),
-        "waiting" => Ok(Job::Waiting(waiting_asked(alloc, matches)?)),
-        "pickup" => Ok(Job::Pickup(pickup_asked(matches))),
-        "history" => Ok(Job::History(history_asked(matches))),
-        "avs" => Ok(Job::Avs(avs_asked(matches))),
-        "reconcile" => Ok(Job::Reconcile(reconcile_asked(matches))),
-        "compare" => Ok(Job::Compare(compare_asked(matches))),
-        "carry" => Ok(Job::Carry(carry_asked(alloc, matches)?)),
-        "changes" => Ok(Job::Changes(changes_asked(matches))),
-        _ => journal_job(alloc, name, matches),
+    match command {
+        Named::Ladder => Ok(Job::Ladder),
+        Named::Check => Ok(check_job(matches)),
+        Named::Flights => Ok(flights_job(matches)),
+        Named::Cover => Ok(Job::Cover(cover_asked(matches))),
+        Named::Rooms => Ok(Job::Rooms(rooms_asked(matches))),
+        Named::Loads => loads_job(alloc, matches),
+        Named::Run => run_job(alloc, matches),
+        Named::Serve => serve_job(alloc, matches),
+        Named::Route => route_job(alloc, matches),
+        Named::Bookings => bookings_job(alloc, matches),
+        Named::Waiting => waiting_job(alloc, matches),
+        Named::Pickup => Ok(Job::Pickup(pickup_asked(matches))),
+        Named::History => Ok(Job::History(history_asked(matches))),
+        Named::Avs => Ok(Job::Avs(avs_asked(matches))),
+        Named::Reconcile => Ok(Job::Reconcile(reconcile_asked(matches))),
+        Named::Compare => Ok(Job::Compare(compare_asked(matches))),
+        Named::Carry => carry_job(alloc, matches),
+        Named::Changes => Ok(Job::Changes(changes_asked(matches))),
+        Named::Audit => audit_job(alloc, matches),
+        Named::Seal => Ok(seal_job(matches)),
+        Named::Recover => Ok(recover_job(matches)),
+        Named::Replies => replies_job(alloc, matches),
+        Named::Told => Ok(Job::Told(told_asked(matches))),
+        Named::Why => Ok(why_job(matches)),
+        Named::Explain => explain_job(alloc, matches),
+        Named::Season => Ok(season_job(matches)),
     }
 }
 
-// A command on a journal and what stands beside it, or one of the last.
-fn journal_job<'a>(
-    alloc: Global,
-    name: &str,
-    matches: &ArgMatches<'a>,
-) -> Result<Job<'a>, AllocError>
-    requires { is_complete_of journal_values (name.now, rows_of (found_of matches.now)) ≡ true }
-    ensures { IfOk result (λ job. Asks job (name.now, rows_of (found_of matches.now))) }
+fn check_job<'a>(matches: &ArgMatches<'a>) -> Job<'a>
+    requires { has_values (values_of named.Check) (rows_of (found_of matches.now)) ≡ true }
+    ensures { Asks result (codes "check", rows_of (found_of matches.now)) }
 {
-    match name {
-        "audit" => Ok(Job::Audit(audit_asked(alloc, matches)?)),
-        "seal" => Ok(Job::Seal {
-            over: horizon_of(matches),
-            journal: value_of(matches, "journal"),
-        }),
-        "recover" => Ok(Job::Recover {
-            over: horizon_of(matches),
-            cut: flag_of(matches, "cut"),
-            journal: value_of(matches, "journal"),
-        }),
-        "replies" => Ok(Job::Replies(replies_asked(alloc, matches)?)),
-        "told" => Ok(Job::Told(told_asked(matches))),
-        "why" => Ok(Job::Why {
-            over: horizon_of(matches),
-            line: value_of(matches, "line"),
-            is_open: flag_of(matches, "open"),
-            journal: value_of(matches, "journal"),
-        }),
-        "explain" => Ok(Job::Explain {
-            code: value_of(matches, "code"),
-            numbers: any_values_of(alloc, matches, "numbers")?,
-        }),
-        "season" => Ok(Job::Season {
-            set: value_of(matches, "set"),
-            limits: value_of(matches, "limits"),
-        }),
-        _ => unreachable!(),
+    Job::Check {
+        set: value_of(matches, "set"),
     }
+}
+
+fn flights_job<'a>(matches: &ArgMatches<'a>) -> Job<'a>
+    requires { has_values (values_of named.Flights) (rows_of (found_of matches.now)) ≡ true }
+    ensures { Asks result (codes "flights", rows_of (found_of matches.now)) }
+{
+    Job::Flights {
+        set: value_of(matches, "set"),
+        first: value_of(matches, "first"),
+        days: value_of(matches, "days"),
+        shape: shape_of(matches),
+    }
+}
+
+fn seal_job<'a>(matches: &ArgMatches<'a>) -> Job<'a>
+    requires { has_values (values_of named.Seal) (rows_of (found_of matches.now)) ≡ true }
+    ensures { Asks result (codes "seal", rows_of (found_of matches.now)) }
+{
+    Job::Seal {
+        over: horizon_of(matches),
+        journal: value_of(matches, "journal"),
+    }
+}
+
+fn recover_job<'a>(matches: &ArgMatches<'a>) -> Job<'a>
+    requires { has_values (values_of named.Recover) (rows_of (found_of matches.now)) ≡ true }
+    ensures { Asks result (codes "recover", rows_of (found_of matches.now)) }
+{
+    Job::Recover {
+        over: horizon_of(matches),
+        cut: flag_of(matches, "cut"),
+        journal: value_of(matches, "journal"),
+    }
+}
+
+fn why_job<'a>(matches: &ArgMatches<'a>) -> Job<'a>
+    requires { has_values (values_of named.Why) (rows_of (found_of matches.now)) ≡ true }
+    ensures { Asks result (codes "why", rows_of (found_of matches.now)) }
+{
+    Job::Why {
+        over: horizon_of(matches),
+        line: value_of(matches, "line"),
+        is_open: flag_of(matches, "open"),
+        journal: value_of(matches, "journal"),
+    }
+}
+
+fn season_job<'a>(matches: &ArgMatches<'a>) -> Job<'a>
+    requires { has_values (values_of named.Season) (rows_of (found_of matches.now)) ≡ true }
+    ensures { Asks result (codes "season", rows_of (found_of matches.now)) }
+{
+    Job::Season {
+        set: value_of(matches, "set"),
+        limits: value_of(matches, "limits"),
+    }
+}
+
+fn explain_job<'a>(alloc: Global, matches: &ArgMatches<'a>) -> Result<Job<'a>, AllocError>
+    requires { has_values (values_of named.Explain) (rows_of (found_of matches.now)) ≡ true }
+    ensures { IfOk result (λ job. Asks job (codes "explain", rows_of (found_of matches.now))) }
+{
+    let numbers = any_values_of(alloc, matches, "numbers")?;
+    Ok(Job::Explain {
+        code: value_of(matches, "code"),
+        numbers,
+    })
 }
 
 fn cover_asked<'a>(matches: &ArgMatches<'a>) -> CoverJob<'a>
-    requires { is_complete (codes "cover", rows_of (found_of matches.now)) ≡ true }
+    requires { has_values (values_of named.Cover) (rows_of (found_of matches.now)) ≡ true }
     ensures { IsCover (rows_of (found_of matches.now)) result }
 {
     CoverJob {
@@ -276,7 +315,7 @@ fn cover_asked<'a>(matches: &ArgMatches<'a>) -> CoverJob<'a>
 }
 
 fn rooms_asked<'a>(matches: &ArgMatches<'a>) -> RoomsJob<'a>
-    requires { is_complete (codes "rooms", rows_of (found_of matches.now)) ≡ true }
+    requires { has_values (values_of named.Rooms) (rows_of (found_of matches.now)) ≡ true }
     ensures { IsRooms (rows_of (found_of matches.now)) result }
 {
     RoomsJob {
@@ -290,11 +329,12 @@ fn rooms_asked<'a>(matches: &ArgMatches<'a>) -> RoomsJob<'a>
     }
 }
 
-fn loads_asked<'a>(alloc: Global, matches: &ArgMatches<'a>) -> Result<LoadsJob<'a>, AllocError>
-    requires { is_complete (codes "loads", rows_of (found_of matches.now)) ≡ true }
-    ensures { IfOk result (IsLoads (rows_of (found_of matches.now))) }
+fn loads_job<'a>(alloc: Global, matches: &ArgMatches<'a>) -> Result<Job<'a>, AllocError>
+    requires { has_values (values_of named.Loads) (rows_of (found_of matches.now)) ≡ true }
+    ensures { IfOk result (λ job. Asks job (codes "loads", rows_of (found_of matches.now))) }
 {
-    Ok(LoadsJob {
+    let others = any_values_of(alloc, matches, "others")?;
+    Ok(Job::Loads(LoadsJob {
         over: horizon_of(matches),
         flight: may_value_of(matches, "flight"),
         day: may_value_of(matches, "day"),
@@ -306,15 +346,16 @@ fn loads_asked<'a>(alloc: Global, matches: &ArgMatches<'a>) -> Result<LoadsJob<'
         is_open: flag_of(matches, "open"),
         are_shards: flag_of(matches, "shards"),
         journal: may_value_of(matches, "journal"),
-        others: any_values_of(alloc, matches, "others")?,
-    })
+        others,
+    }))
 }
 
-fn run_asked<'a>(alloc: Global, matches: &ArgMatches<'a>) -> Result<RunJob<'a>, AllocError>
-    requires { is_complete (codes "run", rows_of (found_of matches.now)) ≡ true }
-    ensures { IfOk result (IsRun (rows_of (found_of matches.now))) }
+fn run_job<'a>(alloc: Global, matches: &ArgMatches<'a>) -> Result<Job<'a>, AllocError>
+    requires { has_values (values_of named.Run) (rows_of (found_of matches.now)) ≡ true }
+    ensures { IfOk result (λ job. Asks job (codes "run", rows_of (found_of matches.now))) }
 {
-    Ok(RunJob {
+    let scripts = any_values_of(alloc, matches, "scripts")?;
+    Ok(Job::Run(RunJob {
         over: horizon_of(matches),
         after: may_value_of(matches, "after"),
         behind: may_value_of(matches, "behind"),
@@ -325,63 +366,64 @@ fn run_asked<'a>(alloc: Global, matches: &ArgMatches<'a>) -> Result<RunJob<'a>, 
         refused: may_value_of(matches, "refused"),
         no_clobber: flag_of(matches, "no-clobber"),
         again: flag_of(matches, "again"),
-        scripts: any_values_of(alloc, matches, "scripts")?,
-    })
+        scripts,
+    }))
 }
 
-fn serve_asked<'a>(alloc: Global, matches: &ArgMatches<'a>) -> Result<ServeJob<'a>, AllocError>
-    requires { is_complete (codes "serve", rows_of (found_of matches.now)) ≡ true }
-    ensures { IfOk result (IsServe (rows_of (found_of matches.now))) }
+fn serve_job<'a>(alloc: Global, matches: &ArgMatches<'a>) -> Result<Job<'a>, AllocError>
+    requires { has_values (values_of named.Serve) (rows_of (found_of matches.now)) ≡ true }
+    ensures { IfOk result (λ job. Asks job (codes "serve", rows_of (found_of matches.now))) }
 {
-    Ok(ServeJob {
+    let desks = any_values_of(alloc, matches, "desk")?;
+    Ok(Job::Serve(ServeJob {
         over: horizon_of(matches),
         today: may_value_of(matches, "today"),
         journal: value_of(matches, "journal"),
-        desks: any_values_of(alloc, matches, "desk")?,
+        desks,
         manager: may_value_of(matches, "manager"),
         status: may_value_of(matches, "status"),
         every: may_value_of(matches, "every"),
         feed: may_value_of(matches, "feed"),
         behind: may_value_of(matches, "behind"),
         closes_departed: flag_of(matches, "close-departed"),
-    })
+    }))
 }
 
-fn route_asked<'a>(alloc: Global, matches: &ArgMatches<'a>) -> Result<RouteJob<'a>, AllocError>
-    requires { is_complete (codes "route", rows_of (found_of matches.now)) ≡ true }
-    ensures { IfOk result (IsRoute (rows_of (found_of matches.now))) }
+fn route_job<'a>(alloc: Global, matches: &ArgMatches<'a>) -> Result<Job<'a>, AllocError>
+    requires { has_values (values_of named.Route) (rows_of (found_of matches.now)) ≡ true }
+    ensures { IfOk result (λ job. Asks job (codes "route", rows_of (found_of matches.now))) }
 {
+    let scripts = any_values_of(alloc, matches, "scripts")?;
     let changes = may_value_of(matches, "changes");
-    Ok(RouteJob {
+    Ok(Job::Route(RouteJob {
         shards: value_of(matches, "shards"),
         changes,
-        scripts: any_values_of(alloc, matches, "scripts")?,
-    })
+        scripts,
+    }))
 }
 
-fn bookings_asked<'a>(
-    alloc: Global,
-    matches: &ArgMatches<'a>,
-) -> Result<BookingsJob<'a>, AllocError>
-    requires { is_complete (codes "bookings", rows_of (found_of matches.now)) ≡ true }
-    ensures { IfOk result (IsBookings (rows_of (found_of matches.now))) }
+fn bookings_job<'a>(alloc: Global, matches: &ArgMatches<'a>) -> Result<Job<'a>, AllocError>
+    requires { has_values (values_of named.Bookings) (rows_of (found_of matches.now)) ≡ true }
+    ensures { IfOk result (λ job. Asks job (codes "bookings", rows_of (found_of matches.now))) }
 {
-    Ok(BookingsJob {
+    let locators = any_values_of(alloc, matches, "locator")?;
+    Ok(Job::Bookings(BookingsJob {
         over: horizon_of(matches),
-        locators: any_values_of(alloc, matches, "locator")?,
+        locators,
         flight: may_value_of(matches, "flight"),
         day: may_value_of(matches, "day"),
         shape: shape_of(matches),
         is_open: flag_of(matches, "open"),
         journal: value_of(matches, "journal"),
-    })
+    }))
 }
 
-fn waiting_asked<'a>(alloc: Global, matches: &ArgMatches<'a>) -> Result<WaitingJob<'a>, AllocError>
-    requires { is_complete (codes "waiting", rows_of (found_of matches.now)) ≡ true }
-    ensures { IfOk result (IsWaiting (rows_of (found_of matches.now))) }
+fn waiting_job<'a>(alloc: Global, matches: &ArgMatches<'a>) -> Result<Job<'a>, AllocError>
+    requires { has_values (values_of named.Waiting) (rows_of (found_of matches.now)) ≡ true }
+    ensures { IfOk result (λ job. Asks job (codes "waiting", rows_of (found_of matches.now))) }
 {
-    Ok(WaitingJob {
+    let others = any_values_of(alloc, matches, "others")?;
+    Ok(Job::Waiting(WaitingJob {
         over: horizon_of(matches),
         flight: may_value_of(matches, "flight"),
         day: may_value_of(matches, "day"),
@@ -389,12 +431,12 @@ fn waiting_asked<'a>(alloc: Global, matches: &ArgMatches<'a>) -> Result<WaitingJ
         is_open: flag_of(matches, "open"),
         are_shards: flag_of(matches, "shards"),
         journal: value_of(matches, "journal"),
-        others: any_values_of(alloc, matches, "others")?,
-    })
+        others,
+    }))
 }
 
 fn pickup_asked<'a>(matches: &ArgMatches<'a>) -> PickupJob<'a>
-    requires { is_complete (codes "pickup", rows_of (found_of matches.now)) ≡ true }
+    requires { has_values (values_of named.Pickup) (rows_of (found_of matches.now)) ≡ true }
     ensures { IsPickup (rows_of (found_of matches.now)) result }
 {
     PickupJob {
@@ -410,7 +452,7 @@ fn pickup_asked<'a>(matches: &ArgMatches<'a>) -> PickupJob<'a>
 }
 
 fn history_asked<'a>(matches: &ArgMatches<'a>) -> HistoryJob<'a>
-    requires { is_complete (codes "history", rows_of (found_of matches.now)) ≡ true }
+    requires { has_values (values_of named.History) (rows_of (found_of matches.now)) ≡ true }
     ensures { IsHistory (rows_of (found_of matches.now)) result }
 {
     HistoryJob {
@@ -425,7 +467,7 @@ fn history_asked<'a>(matches: &ArgMatches<'a>) -> HistoryJob<'a>
 }
 
 fn avs_asked<'a>(matches: &ArgMatches<'a>) -> AvsJob<'a>
-    requires { is_complete (codes "avs", rows_of (found_of matches.now)) ≡ true }
+    requires { has_values (values_of named.Avs) (rows_of (found_of matches.now)) ≡ true }
     ensures { IsAvs (rows_of (found_of matches.now)) result }
 {
     AvsJob {
@@ -441,7 +483,7 @@ fn avs_asked<'a>(matches: &ArgMatches<'a>) -> AvsJob<'a>
 }
 
 fn reconcile_asked<'a>(matches: &ArgMatches<'a>) -> ReconcileJob<'a>
-    requires { is_complete (codes "reconcile", rows_of (found_of matches.now)) ≡ true }
+    requires { has_values (values_of named.Reconcile) (rows_of (found_of matches.now)) ≡ true }
     ensures { IsReconcile (rows_of (found_of matches.now)) result }
 {
     ReconcileJob {
@@ -455,7 +497,7 @@ fn reconcile_asked<'a>(matches: &ArgMatches<'a>) -> ReconcileJob<'a>
 }
 
 fn compare_asked<'a>(matches: &ArgMatches<'a>) -> CompareJob<'a>
-    requires { is_complete (codes "compare", rows_of (found_of matches.now)) ≡ true }
+    requires { has_values (values_of named.Compare) (rows_of (found_of matches.now)) ≡ true }
     ensures { IsCompare (rows_of (found_of matches.now)) result }
 {
     CompareJob {
@@ -465,11 +507,12 @@ fn compare_asked<'a>(matches: &ArgMatches<'a>) -> CompareJob<'a>
     }
 }
 
-fn carry_asked<'a>(alloc: Global, matches: &ArgMatches<'a>) -> Result<CarryJob<'a>, AllocError>
-    requires { is_complete (codes "carry", rows_of (found_of matches.now)) ≡ true }
-    ensures { IfOk result (IsCarry (rows_of (found_of matches.now))) }
+fn carry_job<'a>(alloc: Global, matches: &ArgMatches<'a>) -> Result<Job<'a>, AllocError>
+    requires { has_values (values_of named.Carry) (rows_of (found_of matches.now)) ≡ true }
+    ensures { IfOk result (λ job. Asks job (codes "carry", rows_of (found_of matches.now))) }
 {
-    Ok(CarryJob {
+    let others = any_values_of(alloc, matches, "others")?;
+    Ok(Job::Carry(CarryJob {
         from: value_of(matches, "from"),
         to: value_of(matches, "to"),
         today: value_of(matches, "today"),
@@ -482,12 +525,12 @@ fn carry_asked<'a>(alloc: Global, matches: &ArgMatches<'a>) -> Result<CarryJob<'
         dry_run: flag_of(matches, "dry-run"),
         shape: shape_of(matches),
         journal: value_of(matches, "carried"),
-        others: any_values_of(alloc, matches, "others")?,
-    })
+        others,
+    }))
 }
 
 fn changes_asked<'a>(matches: &ArgMatches<'a>) -> ChangesJob<'a>
-    requires { is_complete (codes "changes", rows_of (found_of matches.now)) ≡ true }
+    requires { has_values (values_of named.Changes) (rows_of (found_of matches.now)) ≡ true }
     ensures { IsChanges (rows_of (found_of matches.now)) result }
 {
     ChangesJob {
@@ -501,11 +544,12 @@ fn changes_asked<'a>(matches: &ArgMatches<'a>) -> ChangesJob<'a>
     }
 }
 
-fn audit_asked<'a>(alloc: Global, matches: &ArgMatches<'a>) -> Result<AuditJob<'a>, AllocError>
-    requires { is_complete (codes "audit", rows_of (found_of matches.now)) ≡ true }
-    ensures { IfOk result (IsAudit (rows_of (found_of matches.now))) }
+fn audit_job<'a>(alloc: Global, matches: &ArgMatches<'a>) -> Result<Job<'a>, AllocError>
+    requires { has_values (values_of named.Audit) (rows_of (found_of matches.now)) ≡ true }
+    ensures { IfOk result (λ job. Asks job (codes "audit", rows_of (found_of matches.now))) }
 {
-    Ok(AuditJob {
+    let scripts = any_values_of(alloc, matches, "scripts")?;
+    Ok(Job::Audit(AuditJob {
         over: horizon_of(matches),
         after: may_value_of(matches, "after"),
         behind: may_value_of(matches, "behind"),
@@ -515,15 +559,16 @@ fn audit_asked<'a>(alloc: Global, matches: &ArgMatches<'a>) -> Result<AuditJob<'
         is_open: flag_of(matches, "open"),
         are_shards: flag_of(matches, "shards"),
         journal: value_of(matches, "journal"),
-        scripts: any_values_of(alloc, matches, "scripts")?,
-    })
+        scripts,
+    }))
 }
 
-fn replies_asked<'a>(alloc: Global, matches: &ArgMatches<'a>) -> Result<RepliesJob<'a>, AllocError>
-    requires { is_complete (codes "replies", rows_of (found_of matches.now)) ≡ true }
-    ensures { IfOk result (IsReplies (rows_of (found_of matches.now))) }
+fn replies_job<'a>(alloc: Global, matches: &ArgMatches<'a>) -> Result<Job<'a>, AllocError>
+    requires { has_values (values_of named.Replies) (rows_of (found_of matches.now)) ≡ true }
+    ensures { IfOk result (λ job. Asks job (codes "replies", rows_of (found_of matches.now))) }
 {
-    Ok(RepliesJob {
+    let scripts = any_values_of(alloc, matches, "scripts")?;
+    Ok(Job::Replies(RepliesJob {
         over: horizon_of(matches),
         after: may_value_of(matches, "after"),
         behind: may_value_of(matches, "behind"),
@@ -533,12 +578,12 @@ fn replies_asked<'a>(alloc: Global, matches: &ArgMatches<'a>) -> Result<RepliesJ
         from: may_value_of(matches, "from"),
         shape: shape_of(matches),
         journal: value_of(matches, "journal"),
-        scripts: any_values_of(alloc, matches, "scripts")?,
-    })
+        scripts,
+    }))
 }
 
 fn told_asked<'a>(matches: &ArgMatches<'a>) -> ToldJob<'a>
-    requires { is_complete (codes "told", rows_of (found_of matches.now)) ≡ true }
+    requires { has_values (values_of named.Told) (rows_of (found_of matches.now)) ≡ true }
     ensures { IsTold (rows_of (found_of matches.now)) result }
 {
     ToldJob {

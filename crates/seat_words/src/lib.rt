@@ -8,6 +8,7 @@ mod examples;
 mod fault;
 mod job;
 mod names;
+mod naming;
 mod pipes;
 mod sessions;
 mod several;
