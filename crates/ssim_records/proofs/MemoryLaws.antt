@@ -21,42 +21,48 @@ answer x = Ok x
 some_none : {A : Type 0} (x : A) → answer x ≡ Err kinds.Memory → ⊥
 some_none x e = cc
 
+bad_field : (byte : ℕ) → kinds.BadField byte ≡ kinds.Memory → ⊥
+bad_field byte e = cc
+
+bad_serial : kinds.BadSerial ≡ kinds.Memory → ⊥
+bad_serial e = cc
+
 -- ---- records
 
 carrier_none : (text : List ℕ) → (carrier_at text) ≡ Err kinds.Memory → ⊥
 unfolding carrier_at
 carrier_none text e =
-    want_none (kinds.BadField 2) (mode_in (field 2 2 text)) _ e (λ k. absurd cc) (λ local e1.
-    want_none (kinds.BadField 3) (designator_in (field 3 5 text)) _ e1 (λ k. absurd cc) (λ airline e2.
-    want_none (kinds.BadField 15) (date_in (field 15 21 text)) _ e2 (λ k. absurd cc) (λ from e3.
-    want_none (kinds.BadField 22) (until_in from (field 22 28 text)) _ e3 (λ k. absurd cc) (λ to e4. some_none _ e4))))
+    want_none (kinds.BadField 2) (mode_in (field 2 2 text)) _ e (bad_field 2) (λ local e1.
+    want_none (kinds.BadField 3) (designator_in (field 3 5 text)) _ e1 (bad_field 3) (λ airline e2.
+    want_none (kinds.BadField 15) (date_in (field 15 21 text)) _ e2 (bad_field 15) (λ from e3.
+    want_none (kinds.BadField 22) (until_in from (field 22 28 text)) _ e3 (bad_field 22) (λ to e4. some_none _ e4))))
 
 name_none : (text : List ℕ) → (leg_name_at text) ≡ Err kinds.Memory → ⊥
 unfolding leg_name_at
 name_none text e =
-    want_none (kinds.BadField 2) (suffix_in (field 2 2 text)) _ e (λ k. absurd cc) (λ suffix e1.
-    want_none (kinds.BadField 3) (designator_in (field 3 5 text)) _ e1 (λ k. absurd cc) (λ own e2.
-    want_none (kinds.BadField 6) (positive_in (field 6 9 text)) _ e2 (λ k. absurd cc) (λ number e3.
-    want_none (kinds.BadField 10) (padded_in (field 10 11 text)) _ e3 (λ k. absurd cc) (λ variation e4.
-    want_none (kinds.BadField 12) (positive_in (field 12 13 text)) _ e4 (λ k. absurd cc) (λ sequence e5. some_none _ e5)))))
+    want_none (kinds.BadField 2) (suffix_in (field 2 2 text)) _ e (bad_field 2) (λ suffix e1.
+    want_none (kinds.BadField 3) (designator_in (field 3 5 text)) _ e1 (bad_field 3) (λ own e2.
+    want_none (kinds.BadField 6) (positive_in (field 6 9 text)) _ e2 (bad_field 6) (λ number e3.
+    want_none (kinds.BadField 10) (padded_in (field 10 11 text)) _ e3 (bad_field 10) (λ variation e4.
+    want_none (kinds.BadField 12) (positive_in (field 12 13 text)) _ e4 (bad_field 12) (λ sequence e5. some_none _ e5)))))
 
 period_none : (text : List ℕ) → (leg_period_at text) ≡ Err kinds.Memory → ⊥
 unfolding leg_period_at
 period_none text e =
-    want_none (kinds.BadField 15) (date_in (field 15 21 text)) _ e (λ k. absurd cc) (λ from e1.
-    want_none (kinds.BadField 22) (until_in from (field 22 28 text)) _ e1 (λ k. absurd cc) (λ to e2.
-    want_none (kinds.BadField 29) (days_in (field 29 35 text)) _ e2 (λ k. absurd cc) (λ days e3.
-    want_none (kinds.BadField 36) (rate_in (field 36 36 text)) _ e3 (λ k. absurd cc) (λ second_week e4. some_none _ e4))))
+    want_none (kinds.BadField 15) (date_in (field 15 21 text)) _ e (bad_field 15) (λ from e1.
+    want_none (kinds.BadField 22) (until_in from (field 22 28 text)) _ e1 (bad_field 22) (λ to e2.
+    want_none (kinds.BadField 29) (days_in (field 29 35 text)) _ e2 (bad_field 29) (λ days e3.
+    want_none (kinds.BadField 36) (rate_in (field 36 36 text)) _ e3 (bad_field 36) (λ second_week e4. some_none _ e4))))
 
 path_none : (text : List ℕ) → (leg_path_at text) ≡ Err kinds.Memory → ⊥
 unfolding leg_path_at
 path_none text e =
-    want_none (kinds.BadField 37) (station_in (field 37 39 text)) _ e (λ k. absurd cc) (λ board e1.
-    want_none (kinds.BadField 44) (time_in (field 44 47 text)) _ e1 (λ k. absurd cc) (λ std e2.
-    want_none (kinds.BadField 48) (offset_in (field 48 52 text)) _ e2 (λ k. absurd cc) (λ offset e3.
-    want_none (kinds.BadField 55) (station_in (field 55 57 text)) _ e3 (λ k. absurd cc) (λ off e4.
-    want_none (kinds.BadField 128) (byte_in (field 128 128 text)) _ e4 (λ k. absurd cc) (λ overflow e5.
-    want_none (kinds.BadField 193) (shift_in (field 193 193 text)) _ e5 (λ k. absurd cc) (λ shift e6. some_none _ e6))))))
+    want_none (kinds.BadField 37) (station_in (field 37 39 text)) _ e (bad_field 37) (λ board e1.
+    want_none (kinds.BadField 44) (time_in (field 44 47 text)) _ e1 (bad_field 44) (λ std e2.
+    want_none (kinds.BadField 48) (offset_in (field 48 52 text)) _ e2 (bad_field 48) (λ offset e3.
+    want_none (kinds.BadField 55) (station_in (field 55 57 text)) _ e3 (bad_field 55) (λ off e4.
+    want_none (kinds.BadField 128) (byte_in (field 128 128 text)) _ e4 (bad_field 128) (λ overflow e5.
+    want_none (kinds.BadField 193) (shift_in (field 193 193 text)) _ e5 (bad_field 193) (λ shift e6. some_none _ e6))))))
 
 leg_none : (airline : List ℕ) (serial : ℕ) (text : List ℕ) → (leg_at airline serial text) ≡ Err kinds.Memory → ⊥
 unfolding leg_at
@@ -69,9 +75,9 @@ leg_none airline serial text e =
 trailer_none : (airline : List ℕ) (before : ℕ) (text : List ℕ) → (trailer_at airline before text) ≡ Err kinds.Memory → ⊥
 unfolding trailer_at
 trailer_none airline before text e =
-    want_none (kinds.BadField 3) (designator_in (field 3 5 text)) _ e (λ k. absurd cc) (λ own e1.
-    want_none (kinds.BadField 188) (six_in (field 188 193 text)) _ e1 (λ k. absurd cc) (λ reference e2.
-    want_none (kinds.BadField 194) (continued_in (field 194 194 text)) _ e2 (λ k. absurd cc) (λ more e3.
+    want_none (kinds.BadField 3) (designator_in (field 3 5 text)) _ e (bad_field 3) (λ own e1.
+    want_none (kinds.BadField 188) (six_in (field 188 193 text)) _ e1 (bad_field 188) (λ reference e2.
+    want_none (kinds.BadField 194) (continued_in (field 194 194 text)) _ e2 (bad_field 194) (λ more e3.
     check_none kinds.OtherAirline (same_text own airline) _ e3 (λ k. absurd cc) (λ e4.
     check_none kinds.BadCheck (eqb reference before) _ e4 (λ k. absurd cc) (λ e5.
     check_none kinds.Continued (not more) _ e5 (λ k. absurd cc) (λ e6. some_none _ e6))))))
@@ -81,24 +87,24 @@ unfolding header_at
 header_none serial text e =
     check_none kinds.NoHeader (eqb (type_of text) 49) _ e (λ k. absurd cc) (λ e1.
     check_none kinds.BadTitle (same_text (field 2 35 text) set_title) _ e1 (λ k. absurd cc) (λ e2.
-    check_none kinds.BadSerial (has_serial serial text) _ e2 (λ k. absurd cc) (λ e3. some_none _ e3)))
+    check_none kinds.BadSerial (has_serial serial text) _ e2 bad_serial (λ e3. some_none _ e3)))
 
 second_none : (serial : ℕ) (text : List ℕ) → (second_at serial text) ≡ Err kinds.Memory → ⊥
 unfolding second_at
 second_none serial text e =
     check_none kinds.BadOrder (eqb (type_of text) 50) _ e (λ k. absurd cc) (λ e1.
-    check_none kinds.BadSerial (has_serial serial text) _ e1 (λ k. absurd cc) (λ e2. carrier_none text e2))
+    check_none kinds.BadSerial (has_serial serial text) _ e1 bad_serial (λ e2. carrier_none text e2))
 
 segment_none : (none : Bool) (serial : ℕ) (text : List ℕ) → (segment_at none serial text) ≡ Err kinds.Memory → ⊥
 unfolding segment_at
 segment_none none serial text e =
     check_none kinds.BadOrder (not none) _ e (λ k. absurd cc) (λ e1.
-    check_none kinds.BadSerial (has_serial serial text) _ e1 (λ k. absurd cc) (λ e2. some_none _ e2))
+    check_none kinds.BadSerial (has_serial serial text) _ e1 bad_serial (λ e2. some_none _ e2))
 
 numbered_none : {A : Type 0} (serial : ℕ) (r : Result A SetKind) (text : List ℕ)
     → (numbered_at serial r text) ≡ Err kinds.Memory → (r ≡ Err kinds.Memory → ⊥) → ⊥
 unfolding numbered_at
-numbered_none serial r text e k = check_none kinds.BadSerial (has_serial serial text) _ e (λ q. absurd cc) k
+numbered_none serial r text e k = check_none kinds.BadSerial (has_serial serial text) _ e bad_serial k
 
 -- ---- steps
 

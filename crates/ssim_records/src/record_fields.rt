@@ -132,18 +132,17 @@ pub fn until_of(from: Day, text: &[u8]) -> Option<Option<Day>>
 pub fn days_of(text: &[u8]) -> Option<[bool; 7]>
     ensures { result ≡ days_in text.now }
 {
-    match text {
-        [a, b, c, d, e, f, g] => Some([
-            day_of(1, *a)?,
-            day_of(2, *b)?,
-            day_of(3, *c)?,
-            day_of(4, *d)?,
-            day_of(5, *e)?,
-            day_of(6, *f)?,
-            day_of(7, *g)?,
-        ]),
-        _ => None,
+    if text.len() != 7 {
+        return None;
     }
+    let mut days = [false; 7];
+    for index in 0..7 {
+        let Some(day) = day_of(index as u8 + 1, text[index]) else {
+            return None;
+        };
+        days[index] = day;
+    }
+    Some(days)
 }
 
 /// Whether it is every second week: `2`, and not a blank or `1`.

@@ -123,10 +123,18 @@ fn carrier_fields(text: &[u8]) -> Result<Carrier, SetKind>
     requires { length text.now ≡ 200 }
     ensures { result ≡ carrier_at text.now }
 {
-    let local = mode_of(&text[1..2]).ok_or(SetKind::BadField(2))?;
-    let airline = designator_of(&text[2..5]).ok_or(SetKind::BadField(3))?;
-    let from = Day::read(&text[14..21]).ok_or(SetKind::BadField(15))?;
-    let to = until_of(from, &text[21..28]).ok_or(SetKind::BadField(22))?;
+    let Some(local) = mode_of(&text[1..2]) else {
+        return Err(SetKind::BadField(2));
+    };
+    let Some(airline) = designator_of(&text[2..5]) else {
+        return Err(SetKind::BadField(3));
+    };
+    let Some(from) = Day::read(&text[14..21]) else {
+        return Err(SetKind::BadField(15));
+    };
+    let Some(to) = until_of(from, &text[21..28]) else {
+        return Err(SetKind::BadField(22));
+    };
     Ok(Carrier {
         airline,
         local,
@@ -219,11 +227,21 @@ fn leg_name(text: &[u8]) -> Result<LegName, SetKind>
     requires { length text.now ≡ 200 }
     ensures { result ≡ leg_name_at text.now }
 {
-    let suffix = suffix_of(&text[1..2]).ok_or(SetKind::BadField(2))?;
-    let own = designator_of(&text[2..5]).ok_or(SetKind::BadField(3))?;
-    let number = number_of(&text[5..9]).ok_or(SetKind::BadField(6))?;
-    let variation = small_of(&text[9..11]).ok_or(SetKind::BadField(10))?;
-    let sequence = sequence_of(&text[11..13]).ok_or(SetKind::BadField(12))?;
+    let Some(suffix) = suffix_of(&text[1..2]) else {
+        return Err(SetKind::BadField(2));
+    };
+    let Some(own) = designator_of(&text[2..5]) else {
+        return Err(SetKind::BadField(3));
+    };
+    let Some(number) = number_of(&text[5..9]) else {
+        return Err(SetKind::BadField(6));
+    };
+    let Some(variation) = small_of(&text[9..11]) else {
+        return Err(SetKind::BadField(10));
+    };
+    let Some(sequence) = sequence_of(&text[11..13]) else {
+        return Err(SetKind::BadField(12));
+    };
     Ok(LegName {
         suffix,
         own,
@@ -238,10 +256,18 @@ fn leg_period(text: &[u8]) -> Result<LegPeriod, SetKind>
     requires { length text.now ≡ 200 }
     ensures { result ≡ leg_period_at text.now }
 {
-    let from = Day::read(&text[14..21]).ok_or(SetKind::BadField(15))?;
-    let to = until_of(from, &text[21..28]).ok_or(SetKind::BadField(22))?;
-    let days = days_of(&text[28..35]).ok_or(SetKind::BadField(29))?;
-    let second_week = rate_of(&text[35..36]).ok_or(SetKind::BadField(36))?;
+    let Some(from) = Day::read(&text[14..21]) else {
+        return Err(SetKind::BadField(15));
+    };
+    let Some(to) = until_of(from, &text[21..28]) else {
+        return Err(SetKind::BadField(22));
+    };
+    let Some(days) = days_of(&text[28..35]) else {
+        return Err(SetKind::BadField(29));
+    };
+    let Some(second_week) = rate_of(&text[35..36]) else {
+        return Err(SetKind::BadField(36));
+    };
     Ok(LegPeriod {
         from,
         to,
@@ -255,12 +281,24 @@ fn leg_path(text: &[u8]) -> Result<LegPath, SetKind>
     requires { length text.now ≡ 200 }
     ensures { result ≡ leg_path_at text.now }
 {
-    let board = station_of(&text[36..39]).ok_or(SetKind::BadField(37))?;
-    let std = time_of(&text[43..47]).ok_or(SetKind::BadField(44))?;
-    let offset = offset_of(&text[47..52]).ok_or(SetKind::BadField(48))?;
-    let off = station_of(&text[54..57]).ok_or(SetKind::BadField(55))?;
-    let overflow = byte_of(&text[127..128]).ok_or(SetKind::BadField(128))?;
-    let shift = shift_of(&text[192..193]).ok_or(SetKind::BadField(193))?;
+    let Some(board) = station_of(&text[36..39]) else {
+        return Err(SetKind::BadField(37));
+    };
+    let Some(std) = time_of(&text[43..47]) else {
+        return Err(SetKind::BadField(44));
+    };
+    let Some(offset) = offset_of(&text[47..52]) else {
+        return Err(SetKind::BadField(48));
+    };
+    let Some(off) = station_of(&text[54..57]) else {
+        return Err(SetKind::BadField(55));
+    };
+    let Some(overflow) = byte_of(&text[127..128]) else {
+        return Err(SetKind::BadField(128));
+    };
+    let Some(shift) = shift_of(&text[192..193]) else {
+        return Err(SetKind::BadField(193));
+    };
     Ok(LegPath {
         board,
         std,
@@ -277,9 +315,15 @@ fn trailer_fields(text: &[u8], airline: Airline, before: u32) -> Result<(), SetK
     requires { length text.now ≡ 200 }
     ensures { result ≡ trailer_at airline before text.now }
 {
-    let own = designator_of(&text[2..5]).ok_or(SetKind::BadField(3))?;
-    let reference = six_of(&text[187..193]).ok_or(SetKind::BadField(188))?;
-    let more = continued_of(&text[193..194]).ok_or(SetKind::BadField(194))?;
+    let Some(own) = designator_of(&text[2..5]) else {
+        return Err(SetKind::BadField(3));
+    };
+    let Some(reference) = six_of(&text[187..193]) else {
+        return Err(SetKind::BadField(188));
+    };
+    let Some(more) = continued_of(&text[193..194]) else {
+        return Err(SetKind::BadField(194));
+    };
     if !is_same(own, airline) {
         return Err(SetKind::OtherAirline);
     }

@@ -1,5 +1,6 @@
 //! Why bytes are no data set.
 ghost use Rattle.std.specs.Prelude.{◌≡◌};
+ghost use Rattle.ssim_records.specs.FaultText.{code_of};
 ghost use Rattle.ssim_records.specs.declared.set_fault.SetKind.TheVariants.{Memory};
 
 use std::alloc::AllocError;
@@ -48,23 +49,29 @@ impl fmt::Display for SetKind {
 
     /// The code, S1 to S15.
     fn fmt<W: fmt::Write>(&self, f: &mut fmt::Formatter<W>) -> fmt::Result {
-        match self {
-            SetKind::Short => f.write_str("S1"),
-            SetKind::BadByte => f.write_str("S2"),
-            SetKind::BadEnd => f.write_str("S3"),
-            SetKind::NoHeader => f.write_str("S4"),
-            SetKind::BadTitle => f.write_str("S5"),
-            SetKind::BadOrder => f.write_str("S6"),
-            SetKind::BadSerial => f.write_str("S7"),
-            SetKind::BadField(_) => f.write_str("S8"),
-            SetKind::OtherAirline => f.write_str("S9"),
-            SetKind::BadCheck => f.write_str("S10"),
-            SetKind::Continued => f.write_str("S11"),
-            SetKind::AfterTrailer => f.write_str("S12"),
-            SetKind::NoTrailer => f.write_str("S13"),
-            SetKind::TooLarge => f.write_str("S14"),
-            SetKind::Memory => f.write_str("S15"),
-        }
+        f.write_str(code_of(*self))
+    }
+}
+
+fn code_of(kind: SetKind) -> &'static str
+    ensures { result.now ≡ code_of kind }
+{
+    match kind {
+        SetKind::Short => "S1",
+        SetKind::BadByte => "S2",
+        SetKind::BadEnd => "S3",
+        SetKind::NoHeader => "S4",
+        SetKind::BadTitle => "S5",
+        SetKind::BadOrder => "S6",
+        SetKind::BadSerial => "S7",
+        SetKind::BadField(_) => "S8",
+        SetKind::OtherAirline => "S9",
+        SetKind::BadCheck => "S10",
+        SetKind::Continued => "S11",
+        SetKind::AfterTrailer => "S12",
+        SetKind::NoTrailer => "S13",
+        SetKind::TooLarge => "S14",
+        SetKind::Memory => "S15",
     }
 }
 
