@@ -1,3 +1,4 @@
+pub mod Behind
 pub mod Besides
 pub mod Booked
 pub mod Closing
@@ -12,5 +13,6 @@ pub mod Known
 pub mod Laws
 pub mod Reading
 pub mod Rules
+pub mod RunParts
 pub mod Runs
 pub mod Text

@@ -1,6 +1,7 @@
 //! What a seal says beside what is given.
 ghost use Rattle.std.specs.Prelude.{◌≡◌, option_map};
 ghost use Rattle.airline_base.specs.Bytes.{same_text};
+ghost use Rattle.seat_seal.specs.Faults.{words_of};
 ghost use Rattle.seat_seal.specs.Comparing.{begins_sealed, same_imprint, same_date, compared, is_its_journal, is_sealed_one, entry_for};
 
 use crate::date::Date;
@@ -45,19 +46,25 @@ impl fmt::Display for SealFault {
 
     /// SEAL and one word.
     fn fmt<W: fmt::Write>(&self, f: &mut fmt::Formatter<W>) -> fmt::Result {
-        match self {
-            SealFault::Missing => f.write_str("SEAL none"),
-            SealFault::Form => f.write_str("SEAL form"),
-            SealFault::Set => f.write_str("SEAL set"),
-            SealFault::Limits => f.write_str("SEAL limits"),
-            SealFault::First => f.write_str("SEAL first"),
-            SealFault::Days => f.write_str("SEAL days"),
-            SealFault::Journal => f.write_str("SEAL journal"),
-            SealFault::Again => f.write_str("SEAL again"),
-            SealFault::Behind => f.write_str("SEAL behind"),
-            SealFault::Several => f.write_str("SEAL runs"),
-            SealFault::Carried => f.write_str("SEAL carried"),
-        }
+        f.write_str(words_of(*self))
+    }
+}
+
+fn words_of(fault: SealFault) -> &'static str
+    ensures { result.now ≡ words_of fault }
+{
+    match fault {
+        SealFault::Missing => "SEAL none",
+        SealFault::Form => "SEAL form",
+        SealFault::Set => "SEAL set",
+        SealFault::Limits => "SEAL limits",
+        SealFault::First => "SEAL first",
+        SealFault::Days => "SEAL days",
+        SealFault::Journal => "SEAL journal",
+        SealFault::Again => "SEAL again",
+        SealFault::Behind => "SEAL behind",
+        SealFault::Several => "SEAL runs",
+        SealFault::Carried => "SEAL carried",
     }
 }
 

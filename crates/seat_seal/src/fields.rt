@@ -1,5 +1,6 @@
 //! The fields of a seal's text, and its lines.
 ghost use Rattle.std.specs.Prelude.{◌≡◌, ◌≤◌, ◌<◌, IfSome, option_map, length};
+ghost use Rattle.seat_seal.specs.Behind.{behind_byte, behind_word};
 ghost use Rattle.seat_seal.specs.Reading.{digest_at, number_at, two_at, date_at, era_at, imprint_at, state_at, journal_at, script_at, line_at, today_at, carried_at};
 
 use crate::date::Date;
@@ -19,7 +20,7 @@ pub fn digest_at(bytes: &[u8]) -> Option<(Digest, &[u8])>
 }
 
 #[tactic(auto, unfolding(crate::specs::Reading::number_at))]
-pub fn number_at(bytes: &[u8], most: u64) -> Option<(u64, &[u8])>
+fn number_at(bytes: &[u8], most: u64) -> Option<(u64, &[u8])>
     ensures value { option_map (λ x. (x.0, x.1.now)) result ≡ number_at most bytes.now }
     ensures bound { IfSome result (λ x. x.0 ≤ most) }
 {
@@ -32,6 +33,17 @@ pub fn number_at(bytes: &[u8], most: u64) -> Option<(u64, &[u8])>
         return None;
     }
     Some((number, rest))
+}
+
+/// A number of at most `most` behind this word.
+pub fn number_behind<'a>(word: &[u8], bytes: &'a [u8], most: u64) -> Option<(u64, &'a [u8])>
+    ensures value { option_map (λ x. (x.0, x.1.now)) result ≡ behind_word word.now (number_at most) bytes.now }
+    ensures bound { IfSome result (λ x. x.0 ≤ most) }
+{
+    let Some(rest) = word_of(word, bytes) else {
+        return None;
+    };
+    number_at(rest, most)
 }
 
 fn two_at(bytes: &[u8]) -> Option<(u8, &[u8])>
@@ -47,8 +59,18 @@ fn two_at(bytes: &[u8]) -> Option<(u8, &[u8])>
     }
 }
 
+fn two_behind(byte: u8, bytes: &[u8]) -> Option<(u8, &[u8])>
+    ensures value { option_map (λ x. (x.0, x.1.now)) result ≡ behind_byte byte two_at bytes.now }
+    ensures bound { IfSome result (λ x. x.0 ≤ 99) }
+{
+    let Some(rest) = byte_of(byte, bytes) else {
+        return None;
+    };
+    two_at(rest)
+}
+
 #[tactic(auto, unfolding(crate::specs::Reading::date_at))]
-pub fn date_at(bytes: &[u8]) -> Option<(Date, &[u8])>
+fn date_at(bytes: &[u8]) -> Option<(Date, &[u8])>
     ensures { option_map (λ x. (x.0, x.1.now)) result ≡ date_at bytes.now }
 {
     let Some((century, rest)) = two_at(bytes) else {
@@ -57,10 +79,10 @@ pub fn date_at(bytes: &[u8]) -> Option<(Date, &[u8])>
     let Some((year, rest)) = two_at(rest) else {
         return None;
     };
-    let Some((month, rest)) = two_at(byte_of(b'-', rest)?) else {
+    let Some((month, rest)) = two_behind(b'-', rest) else {
         return None;
     };
-    let Some((day, rest)) = two_at(byte_of(b'-', rest)?) else {
+    let Some((day, rest)) = two_behind(b'-', rest) else {
         return None;
     };
     let date = Date {
@@ -71,6 +93,16 @@ pub fn date_at(bytes: &[u8]) -> Option<(Date, &[u8])>
     Some((date, rest))
 }
 
+/// A date behind this word.
+pub fn date_behind<'a>(word: &[u8], bytes: &'a [u8]) -> Option<(Date, &'a [u8])>
+    ensures { option_map (λ x. (x.0, x.1.now)) result ≡ behind_word word.now date_at bytes.now }
+{
+    let Some(rest) = word_of(word, bytes) else {
+        return None;
+    };
+    date_at(rest)
+}
+
 #[tactic(auto, unfolding(crate::specs::Reading::imprint_at))]
 pub fn imprint_at(bytes: &[u8]) -> Option<(Imprint, &[u8])>
     ensures { option_map (λ x. (x.0, x.1.now)) result ≡ imprint_at bytes.now }
@@ -78,7 +110,7 @@ pub fn imprint_at(bytes: &[u8]) -> Option<(Imprint, &[u8])>
     let Some((digest, rest)) = digest_at(bytes) else {
         return None;
     };
-    let Some((count, rest)) = number_at(word_of(b" bytes ", rest)?, 9_999_999_999) else {
+    let Some((count, rest)) = number_behind(b" bytes ", rest, 9_999_999_999) else {
         return None;
     };
     Some((
@@ -107,10 +139,10 @@ pub fn journal_at(bytes: &[u8]) -> Option<(SealedJournal, &[u8])>
     let Some((digest, rest)) = digest_at(bytes) else {
         return None;
     };
-    let Some((lines, rest)) = number_at(word_of(b" lines ", rest)?, 999_999) else {
+    let Some((lines, rest)) = number_behind(b" lines ", rest, 999_999) else {
         return None;
     };
-    let Some((count, rest)) = number_at(word_of(b" bytes ", rest)?, 9_999_999_999) else {
+    let Some((count, rest)) = number_behind(b" bytes ", rest, 9_999_999_999) else {
         return None;
     };
     let Some((state, rest)) = state_at(rest) else {
@@ -150,20 +182,29 @@ fn script_at(bytes: &[u8]) -> Option<(Script, &[u8])>
 pub fn digest_line<'a>(word: &[u8], bytes: &'a [u8]) -> Option<(Digest, &'a [u8])>
     ensures { option_map (λ x. (x.0, x.1.now)) result ≡ line_at word.now digest_at bytes.now }
 {
-    let Some((digest, rest)) = digest_at(word_of(word, bytes)?) else {
+    let Some(rest) = word_of(word, bytes) else {
         return None;
     };
-    Some((digest, byte_of(b'\n', rest)?))
+    let Some((digest, rest)) = digest_at(rest) else {
+        return None;
+    };
+    let Some(rest) = byte_of(b'\n', rest) else {
+        return None;
+    };
+    Some((digest, rest))
 }
 
 #[tactic(auto, unfolding(crate::specs::Reading::line_at))]
 pub fn date_line<'a>(word: &[u8], bytes: &'a [u8]) -> Option<(Date, &'a [u8])>
     ensures { option_map (λ x. (x.0, x.1.now)) result ≡ line_at word.now date_at bytes.now }
 {
-    let Some((date, rest)) = date_at(word_of(word, bytes)?) else {
+    let Some((date, rest)) = date_behind(word, bytes) else {
         return None;
     };
-    Some((date, byte_of(b'\n', rest)?))
+    let Some(rest) = byte_of(b'\n', rest) else {
+        return None;
+    };
+    Some((date, rest))
 }
 
 #[tactic(auto, unfolding(crate::specs::Reading::line_at))]
@@ -171,40 +212,61 @@ pub fn number_line<'a>(word: &[u8], bytes: &'a [u8], most: u64) -> Option<(u64, 
     ensures value { option_map (λ x. (x.0, x.1.now)) result ≡ line_at word.now (number_at most) bytes.now }
     ensures bound { IfSome result (λ x. x.0 ≤ most) }
 {
-    let Some((number, rest)) = number_at(word_of(word, bytes)?, most) else {
+    let Some((number, rest)) = number_behind(word, bytes, most) else {
         return None;
     };
-    Some((number, byte_of(b'\n', rest)?))
+    let Some(rest) = byte_of(b'\n', rest) else {
+        return None;
+    };
+    Some((number, rest))
 }
 
 #[tactic(auto, unfolding(crate::specs::Reading::line_at))]
 pub fn imprint_line<'a>(word: &[u8], bytes: &'a [u8]) -> Option<(Imprint, &'a [u8])>
     ensures { option_map (λ x. (x.0, x.1.now)) result ≡ line_at word.now imprint_at bytes.now }
 {
-    let Some((imprint, rest)) = imprint_at(word_of(word, bytes)?) else {
+    let Some(rest) = word_of(word, bytes) else {
         return None;
     };
-    Some((imprint, byte_of(b'\n', rest)?))
+    let Some((imprint, rest)) = imprint_at(rest) else {
+        return None;
+    };
+    let Some(rest) = byte_of(b'\n', rest) else {
+        return None;
+    };
+    Some((imprint, rest))
 }
 
 #[tactic(auto, unfolding(crate::specs::Reading::line_at))]
 pub fn journal_line<'a>(word: &[u8], bytes: &'a [u8]) -> Option<(SealedJournal, &'a [u8])>
     ensures { option_map (λ x. (x.0, x.1.now)) result ≡ line_at word.now journal_at bytes.now }
 {
-    let Some((journal, rest)) = journal_at(word_of(word, bytes)?) else {
+    let Some(rest) = word_of(word, bytes) else {
         return None;
     };
-    Some((journal, byte_of(b'\n', rest)?))
+    let Some((journal, rest)) = journal_at(rest) else {
+        return None;
+    };
+    let Some(rest) = byte_of(b'\n', rest) else {
+        return None;
+    };
+    Some((journal, rest))
 }
 
 #[tactic(auto, unfolding(crate::specs::Reading::line_at))]
 pub fn script_line<'a>(word: &[u8], bytes: &'a [u8]) -> Option<(Script, &'a [u8])>
     ensures { option_map (λ x. (x.0, x.1.now)) result ≡ line_at word.now script_at bytes.now }
 {
-    let Some((script, rest)) = script_at(word_of(word, bytes)?) else {
+    let Some(rest) = word_of(word, bytes) else {
         return None;
     };
-    Some((script, byte_of(b'\n', rest)?))
+    let Some((script, rest)) = script_at(rest) else {
+        return None;
+    };
+    let Some(rest) = byte_of(b'\n', rest) else {
+        return None;
+    };
+    Some((script, rest))
 }
 
 // ---- the lines of an era

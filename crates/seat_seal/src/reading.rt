@@ -4,11 +4,13 @@ ghost use Rattle.airline_base.specs.Bytes.{same_text};
 ghost use Rattle.seat_seal.specs.declared.seal.Seal.{Seal as Told};
 ghost use Rattle.seat_seal.specs.Rules.{IsSeal, HasTypes};
 ghost use Rattle.seat_seal.specs.Text.{seal_text};
+ghost use Rattle.seat_seal.specs.RunParts.{run_from};
 ghost use Rattle.seat_seal.specs.Reading.{scripts_at, changes_at, run_at, runs_at, sealed_at, other_at, entry_at, second_at, head_at, seal_at};
 
+use crate::date::Date;
 use crate::fields::{
-    date_at, date_line, digest_line, era_at, imprint_line, journal_line, number_at, number_line,
-    script_line,
+    date_behind, date_line, digest_line, era_at, imprint_line, journal_line, number_behind,
+    number_line, script_line,
 };
 use crate::imprint::Imprint;
 use crate::rules::is_seal;
@@ -111,7 +113,10 @@ fn other_at(bytes: &[u8]) -> Option<(Imprint, &[u8])>
     let Some((imprint, rest)) = imprint_line(b"other ", bytes) else {
         return None;
     };
-    Some((imprint, word_of(b"END\n", rest)?))
+    let Some(rest) = word_of(b"END\n", rest) else {
+        return None;
+    };
+    Some((imprint, rest))
 }
 
 #[tactic(auto, unfolding(crate::specs::Reading::sealed_at))]
@@ -135,7 +140,9 @@ fn sealed_at(bytes: &[u8]) -> Option<(Sealed, &[u8])>
         return None;
     };
     let (runs, rest) = runs_at(rest);
-    let rest = word_of(b"END\n", rest)?;
+    let Some(rest) = word_of(b"END\n", rest) else {
+        return None;
+    };
     let sealed = Sealed {
         set,
         limits,
@@ -168,22 +175,31 @@ fn runs_at(bytes: &[u8]) -> (Runs, &[u8])
 fn run_at(bytes: &[u8]) -> Option<(Run, &[u8])>
     ensures { option_map (λ x. (x.0, x.1.now)) result ≡ run_at bytes.now }
 {
-    let Some((behind, rest)) = number_at(word_of(b"run behind ", bytes)?, 999_999) else {
+    let Some((behind, rest)) = number_behind(b"run behind ", bytes, 999_999) else {
         return None;
     };
-    let Some((today, rest)) = date_at(word_of(b" today ", rest)?) else {
+    let Some((today, rest)) = date_behind(b" today ", rest) else {
         return None;
     };
-    let rest = byte_of(b'\n', rest)?;
-    let (scripts, rest) = scripts_at(rest);
+    let Some(rest) = byte_of(b'\n', rest) else {
+        return None;
+    };
+    Some(run_from(behind as u32, today, rest))
+}
+
+// The scripts and the changes of a run.
+fn run_from(behind: u32, today: Date, bytes: &[u8]) -> (Run, &[u8])
+    ensures { (result.0, result.1.now) ≡ run_from behind today bytes.now }
+{
+    let (scripts, rest) = scripts_at(bytes);
     let (changes, rest) = changes_at(rest);
     let run = Run {
-        behind: behind as u32,
+        behind,
         today,
         scripts,
         changes,
     };
-    Some((run, rest))
+    (run, rest)
 }
 
 fn scripts_at(bytes: &[u8]) -> (Scripts, &[u8])
