@@ -1,5 +1,5 @@
 -- The text of a reply is a segment line.
-use Rattle.std.proofs.Common.{◌≡◌, ℕ, ◌+◌, ◌%◌, ◌^◌, ◌<◌, ◌≤◌, true, List, [], ◌∷◌, ◌++◌, length, take, Option, Some, None, refl, sym, ap, ◌∙◌, arith, decimal}
+use Rattle.std.proofs.Common.{◌≡◌, ℕ, ◌+◌, ◌%◌, ◌^◌, ◌<◌, ◌≤◌, true, List, [], ◌∷◌, ◌++◌, length, take, Option, Some, None, refl, sym, ap, ◌∙◌, arith, decimal, append_assoc}
 use Rattle.std.specs.Char.{is_ascii_digit}
 use Rattle.std.specs.List.{list_all}
 use Rattle.std.proofs.lemmas.Bool.Decides.{nat_tests}
@@ -37,6 +37,14 @@ length_day day month low high = omega (arith, length-append (two_digits day) (mo
 pub day_front : (day month year : ℕ) (text : List ℕ) → 1 ≤ month → month ≤ 12
     → text ≡ day_month day month ++ two_digits year → take 5 text ≡ day_month day month
 day_front day month year text low high e = ap (take 5) e ∙ take_at (day_month day month) (two_digits year) 5 (length_day day month low high)
+
+-- what is put behind one another, piece by piece
+pub joined : (t0 t1 t2 t3 t4 t5 t6 t7 t8 t9 t10 t11 a n s d b o e m a1 d1 b1 o1 e1 : List ℕ) (c c1 : ℕ) → t0 ≡ []
+    → t1 ≡ t0 ++ a1 → a1 ≡ a → t2 ≡ t1 ++ n → t3 ≡ t2 ++ s → t4 ≡ t3 ++ c1 ∷ [] → c1 ≡ c → t5 ≡ t4 ++ d1 → d1 ≡ d
+    → t6 ≡ t5 ++ 32 ∷ [] → t7 ≡ t6 ++ b1 → b1 ≡ b → t8 ≡ t7 ++ o1 → o1 ≡ o → t9 ≡ t8 ++ 32 ∷ [] → t10 ≡ t9 ++ e1
+    → e1 ≡ e → t11 ≡ t10 ++ m
+    → t11 ≡ a ++ (n ++ ((s ++ c ∷ []) ++ (d ++ (32 ∷ (b ++ (o ++ (32 ∷ (e ++ m))))))))
+joined t0 t1 t2 t3 t4 t5 t6 t7 t8 t9 t10 t11 a n s d b o e m a1 d1 b1 o1 e1 c c1 h0 h1 k1 h2 h3 h4 k4 h5 k5 h6 h7 k7 h8 k8 h9 h10 k10 h11 = rw (h11, h10, k10, h9, h8, k8, h7, k7, h6, h5, k5, h4, k4, h3, h2, h1, k1, h0) (simp append_assoc)
 
 no_tail : (a n l d b o e m : List ℕ)
     → a ++ (n ++ (l ++ (d ++ (32 ∷ (b ++ (o ++ (32 ∷ (e ++ m)))))))) ≡ a

@@ -1,5 +1,6 @@
 //! Why a line or a script is refused.
 ghost use Rattle.std.specs.Prelude.{◌≡◌};
+ghost use Rattle.airimp_lines.specs.FaultText.{line_code};
 ghost use Rattle.airimp_lines.specs.declared.fault.ScriptKind.TheVariants.{Memory};
 
 use std::alloc::AllocError;
@@ -36,17 +37,23 @@ impl fmt::Display for LineFault {
 
     /// The code, A1 to A9.
     fn fmt<W: fmt::Write>(&self, f: &mut fmt::Formatter<W>) -> fmt::Result {
-        match self {
-            LineFault::Length => f.write_str("A1"),
-            LineFault::Airline => f.write_str("A2"),
-            LineFault::Number => f.write_str("A3"),
-            LineFault::Class => f.write_str("A4"),
-            LineFault::Day => f.write_str("A5"),
-            LineFault::Pair => f.write_str("A6"),
-            LineFault::Code => f.write_str("A7"),
-            LineFault::Seats => f.write_str("A8"),
-            LineFault::Tail => f.write_str("A9"),
-        }
+        f.write_str(line_code(*self))
+    }
+}
+
+fn line_code(fault: LineFault) -> &'static str
+    ensures { result.now ≡ line_code fault }
+{
+    match fault {
+        LineFault::Length => "A1",
+        LineFault::Airline => "A2",
+        LineFault::Number => "A3",
+        LineFault::Class => "A4",
+        LineFault::Day => "A5",
+        LineFault::Pair => "A6",
+        LineFault::Code => "A7",
+        LineFault::Seats => "A8",
+        LineFault::Tail => "A9",
     }
 }
 

@@ -98,23 +98,27 @@ fn steps_of(text: &[u8]) -> Option<ArrayVec<Step, 28>>
 pub(crate) fn entry_of(bytes: &[u8]) -> Option<(Step, &[u8])>
     ensures { option_map (λ x. (x.0, x.1.now)) result ≡ entry_at bytes.now }
 {
-    match bytes {
-        [class, a, b, c, b'/', d, e, f, rest @ ..] => {
-            let limit = three_of(*a, *b, *c)?;
-            let wait = three_of(*d, *e, *f)?;
-            let class = Class::new(*class)?;
-            let (listed, rest) = mark_of(rest);
-            let step = Step {
-                class,
-                limit,
-                wait,
-                listed,
-                closed: false,
-            };
-            Some((step, rest))
-        }
-        _ => None,
-    }
+    let [class, a, b, c, b'/', d, e, f, rest @ ..] = bytes else {
+        return None;
+    };
+    let Some(limit) = three_of(*a, *b, *c) else {
+        return None;
+    };
+    let Some(wait) = three_of(*d, *e, *f) else {
+        return None;
+    };
+    let Some(class) = Class::new(*class) else {
+        return None;
+    };
+    let (listed, rest) = mark_of(rest);
+    let step = Step {
+        class,
+        limit,
+        wait,
+        listed,
+        closed: false,
+    };
+    Some((step, rest))
 }
 
 /// Whether the mark stands at the front, and what follows it.

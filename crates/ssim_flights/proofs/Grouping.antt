@@ -1,12 +1,12 @@
 -- How legs are gathered into itineraries, one leg more.
-use Rattle.std.proofs.Common.{◌≡◌, ℕ, suc, ◌+◌, ◌≤◌, Bool, true, false, cond, not, ◌||◌, List, [], ◌∷◌, ◌++◌, length, get_or, set, map, take, refl, sym, ap, subst, ◌∙◌, arith, append-nil}
+use Rattle.std.proofs.Common.{◌≡◌, ℕ, suc, ◌+◌, ◌<◌, ◌≤◌, Bool, true, false, cond, not, ◌||◌, List, [], ◌∷◌, ◌++◌, length, get_or, set, map, take, refl, sym, ap, subst, ◌∙◌, arith, append-nil}
 use Rattle.ssim_flights.proofs.Common.{list_any, IsDistinct, Leg}
 use Rattle.std.specs.List.{AllByRecursion, position_or_len}
 use Rattle.std.specs.Cmp.{IsEquivalence}
 use Rattle.std.specs.Cmp.Lexicographic.{options_equiv}
-use Rattle.std.proofs.lemmas.Bool.{true≢false, false≢true}
+use Rattle.std.proofs.lemmas.Bool.{true≢false, false≢true, not-true, not-false}
 use Rattle.std.proofs.lemmas.Cmp.{nat_eq_equiv, on_equiv, and_equiv}
-use Rattle.std.proofs.lemmas.List.{map-append, take_all}
+use Rattle.std.proofs.lemmas.List.{map-append, take_all, length-map}
 use Rattle.std.proofs.lemmas.List.Elements.{filter-append}
 use Rattle.std.proofs.lemmas.List.Folds.{list_any-append}
 use Rattle.std.proofs.lemmas.Map.Keys.{IsDistinct-head, IsDistinct-tail}
@@ -167,6 +167,23 @@ gathered_old legs leg names names2 all all2 p is there keys distinct at groups =
       ∙ ap (map (legs_of (legs ++ leg ∷ []))) (sym (keys ∙ with_old names (name_of leg) there));
   distinct = distinct;
 }
+
+-- a leg that was placed, alone where its name is new and else behind those of its name
+pub gathered_placed : (legs : List Leg) (leg : Leg) (names names2 : List Name) (all all2 : List (List Leg)) (p : ℕ)
+    (is_new : Bool)
+    → IsGathered legs names all → is_new ≡ not (list_any (same_name (name_of leg)) names)
+    → names2 ≡ with_name names (name_of leg) → IsDistinct same_name names2
+    → p ≡ position_or_len (same_name (name_of leg)) names → (is_new ≡ true → all2 ≡ all ++ (leg ∷ []) ∷ [])
+    → (is_new ≡ false → all2 ≡ set all p (get_or all p [] ++ leg ∷ []))
+    → IsGathered (legs ++ leg ∷ []) names2 all2
+gathered_placed legs leg names names2 all all2 p true is new keys distinct at begun extended = gathered_new legs leg names names2 all all2 is (not-true _ (sym new)) keys distinct (begun refl)
+gathered_placed legs leg names names2 all all2 p false is new keys distinct at begun extended = gathered_old legs leg names names2 all all2 p is (not-false _ (sym new)) keys distinct at (extended refl)
+
+-- where a name is not new, its itinerary stands there
+pub placed_below : (legs : List Leg) (names : List Name) (all : List (List Leg)) (n p : ℕ) (is_new : Bool)
+    → IsGathered legs names all → n ≡ length names + cond is_new 1 0 → p < n → is_new ≡ false → p < length all
+placed_below legs names all n p true is len below old = absurd (true≢false old)
+placed_below legs names all n p false is len below old = omega (arith, len, below, ap length is.groups, length-map names (legs_of legs))
 
 -- all legs gathered
 pub gathered_all : (legs : List Leg) (n : ℕ) (names : List Name) (all : List (List Leg)) → length legs ≤ n

@@ -12,5 +12,6 @@ mod OperatingDays
 mod Repeating
 pub mod RightSets
 mod Rounding
+mod RowByRow
 mod Slotting
 pub mod Walks

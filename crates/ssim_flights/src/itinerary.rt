@@ -36,11 +36,7 @@ pub(crate) fn itineraries(alloc: Global, legs: &[Leg]) -> Result<LegLists, Memor
     let mut all = LegLists::new(alloc);
     for leg in legs {
         let (index, is_new) = names.insert_full(name_of(leg))?;
-        if is_new {
-            all.begin(alloc, *leg)?;
-        } else {
-            all.extend(index, *leg)?;
-        }
+        all.place(alloc, index, is_new, *leg)?;
     }
     Ok(all)
 }

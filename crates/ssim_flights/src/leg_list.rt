@@ -1,5 +1,5 @@
 //! Lists of legs.
-ghost use Rattle.std.specs.Prelude.{◌≡◌, ◌<◌, ◌++◌, ◌∷◌, List, [], OnOk, length, slice_set, slice_index_or};
+ghost use Rattle.std.specs.Prelude.{◌≡◌, ◌<◌, ◌++◌, ◌∷◌, List, [], true, false, OnOk, length, slice_set, slice_index_or};
 ghost use Rattle.ssim_records.specs.declared.carrier.Leg.{Leg as Flown};
 
 use airline_base::{Day, Memory, Station};
@@ -34,8 +34,27 @@ impl LegLists {
         self.items.as_slice()
     }
 
+    /// Adds a leg: as an itinerary of its own where it begins one, and else to the end of itinerary `i`.
+    pub(crate) fn place(
+        &mut self,
+        alloc: Global,
+        i: usize,
+        begins: bool,
+        leg: Leg,
+    ) -> Result<(), Memory>
+        requires { begins ≡ false → i < length self.old }
+        ensures begun { OnOk result (begins ≡ true → self.new ≡ self.old ++ (leg ∷ []) ∷ []) }
+        ensures extended { OnOk result (begins ≡ false
+            → self.new ≡ slice_set self.old i (slice_index_or self.old i [] ++ leg ∷ [])) }
+    {
+        if begins {
+            return self.begin(alloc, leg);
+        }
+        self.extend(i, leg)
+    }
+
     /// Adds an itinerary of one leg at the end.
-    pub(crate) fn begin(&mut self, alloc: Global, leg: Leg) -> Result<(), Memory>
+    fn begin(&mut self, alloc: Global, leg: Leg) -> Result<(), Memory>
         ensures { OnOk result (self.new ≡ self.old ++ (leg ∷ []) ∷ []) }
     {
         let _suffix: Option<u8> = leg.suffix;
@@ -48,7 +67,7 @@ impl LegLists {
     }
 
     /// Adds a leg to the end of itinerary `i`.
-    pub(crate) fn extend(&mut self, i: usize, leg: Leg) -> Result<(), Memory>
+    fn extend(&mut self, i: usize, leg: Leg) -> Result<(), Memory>
         requires { i < length self.old }
         ensures { OnOk result (self.new ≡ slice_set self.old i (slice_index_or self.old i [] ++ leg ∷ [])) }
     {
