@@ -17,7 +17,7 @@ use Rattle.seat_rules.specs.Histories.{of_session}
 use Rattle.seat_display.specs.Faces.{Published}
 use Rattle.seat_host.specs.Lawful.{IsTied, Shows, LawfulUnderLock, AddsLine}
 use Rattle.seat_host.specs.Ledgers.{Staked, counted}
-use Rattle.seat_host.specs.Sessions.{Stands, Booked, Waits, Seat}
+use Rattle.seat_host.specs.Sessions.{Stands, Booked, Seat}
 use Rattle.seat_host.specs.Settling.{IsConfirmed}
 use Rattle.seat_rules.proofs.Own.{own_append, own_length, own_one, own_other, calls_own}
 
@@ -179,13 +179,3 @@ lawful_push grid cap book n core now line_counts audited more publisher shown op
       shown = shows;
       tied = subst (λ (j : List Entry). IsTied grid cap n more j) (sym a.journal_is) tied;
     }
-
--- a session whose receipts are as they were
-pub waits_same : (old : Seat) (id : ℕ) (receipts items front : List Entry)
-    → (let s : Seat = record { id = id; receipts = receipts; front = front } in s ≡ old) → items ≡ receipts
-    → Waits old (record { id = id; receipts = items; front = front })
-waits_same old id receipts items front is same = record {
-  id = ap (λ (s : Seat). s.id) is;
-  receipts = same ∙ ap (λ (s : Seat). s.receipts) is;
-  before = subst (λ (l : List Entry). Begins l front) (ap (λ (s : Seat). s.front) is) (begins_itself front);
-}

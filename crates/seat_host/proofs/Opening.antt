@@ -1,6 +1,6 @@
 -- A host that goes on from lines.
 use Rattle.std.proofs.Common.{◌≡◌, ◌≢◌, ℕ, suc, ◌+◌, ◌<◌, ◌≤◌, ◌⊎◌, List, [], ◌∷◌, ◌++◌, length, get_or, take, drop, refl, ap, sym, subst, ◌∙◌, arith, ⊎_elim}
-use Rattle.std.specs.Prelude.{slice_index, slice_set}
+use Rattle.std.specs.Prelude.{All, slice_index, slice_set}
 use Rattle.std.proofs.lemmas.List.{append-nil, length-take-le, take-append-drop, take_more}
 use Rattle.std.proofs.lemmas.Bool.{cases_lt}
 use Rattle.logbook.specs.Pages.{Book}
@@ -16,6 +16,7 @@ use Rattle.seat_display.specs.Faces.{Viewed, opened}
 use Rattle.seat_rules.specs.Histories.{of_session, OnlyFirst}
 use Rattle.seat_host.specs.Lawful.{IsTied, CountsFirst}
 use Rattle.seat_host.specs.Ledgers.{Staked, counted}
+use Rattle.seat_host.specs.Seating.{Seating}
 use Rattle.seat_host.specs.Sessions.{Seat, Stands, seated, seated_sessions}
 use Rattle.seat_rules.proofs.Own.{own_append, own_length, own_one, own_other}
 use Rattle.seat_host.proofs.Booking.{at_set_here, at_set_else, set_length, dec_nat, no_calls}
@@ -40,7 +41,7 @@ only_eight grid journal legal = record { none = λ s more. each_legal grid (λ (
         own_append s past (e ∷ []) ∙ (λ i. none i ++ own_other s e other i)
 
 -- nothing is counted yet
-pub counts_none : (journal : List Entry) (line_counts : List ℕ) → line_counts ≡ 0 ∷ 0 ∷ 0 ∷ 0 ∷ 0 ∷ 0 ∷ 0 ∷ 0 ∷ 0 ∷ []
+counts_none : (journal : List Entry) (line_counts : List ℕ) → line_counts ≡ 0 ∷ 0 ∷ 0 ∷ 0 ∷ 0 ∷ 0 ∷ 0 ∷ 0 ∷ 0 ∷ []
     → CountsFirst 0 journal line_counts
 counts_none journal line_counts zeros = record {
   wide = ap length zeros;
@@ -66,7 +67,7 @@ counts_more n journal line_counts now c high is = record {
     less s n few not = omega (arith, few, not)
 
 -- the same of the share that counts them
-pub counts_seated : (n was : ℕ) (journal receipts : List Entry) (line_counts now : List ℕ) (stake : Staked) (more : ℕ)
+counts_seated : (n was : ℕ) (journal receipts : List Entry) (line_counts now : List ℕ) (stake : Staked) (more : ℕ)
     → CountsFirst n journal line_counts → n < 9 → stake ≡ counted was 0 → was ≡ n → receipts ≡ of_session n journal
     → more ≡ length receipts
     → now ≡ slice_set line_counts stake.number (slice_index line_counts stake.number + more)
@@ -76,12 +77,37 @@ counts_seated n was journal receipts line_counts now stake more c high staked ne
     let lines : more ≡ length (of_session n journal) = many ∙ ap length own in
     counts_more n journal line_counts now c high (is ∙ (λ i. slice_set line_counts (number i) (slice_index line_counts (number i) + lines i)))
 
-pub stake_seated : (n was more : ℕ) (receipts : List Entry) (stake now : Staked) → stake ≡ counted was 0 → was ≡ n
-    → more ≡ length receipts → now ≡ counted stake.number (stake.amount + more) → now ≡ counted n (length receipts)
-stake_seated n was more receipts stake now staked next many is =
-    let number : stake.number ≡ n = ap (λ (k : Staked). k.number) staked ∙ next in
+pub stake_seated : (book : Book) (grid : Ladders) (n was more : ℕ) (lines receipts : List Entry) (line_counts : List ℕ)
+    (viewers : List Viewed) (stake now : Staked) → Seating book grid lines n line_counts was viewers
+    → stake ≡ counted was 0 → more ≡ length receipts → now ≡ counted stake.number (stake.amount + more)
+    → now ≡ counted n (length receipts)
+stake_seated book grid n was more lines receipts line_counts viewers stake now s staked many is =
+    let number : stake.number ≡ n = ap (λ (k : Staked). k.number) staked ∙ s.next_is in
     let amount : stake.amount + more ≡ length receipts = omega (arith, ap (λ (k : Staked). k.amount) staked, many) in
     is ∙ (λ i. counted (number i) (amount i))
+
+-- nobody is seated yet
+pub seating_none : (book : Book) (grid : Ladders) (lines : List Entry) (line_counts : List ℕ) (next : ℕ)
+    (viewers : List Viewed) → line_counts ≡ 0 ∷ 0 ∷ 0 ∷ 0 ∷ 0 ∷ 0 ∷ 0 ∷ 0 ∷ 0 ∷ [] → next ≡ 0
+    → All (λ v. v ≡ opened book grid) viewers → Seating book grid lines 0 line_counts next viewers
+seating_none book grid lines line_counts next viewers zeros first new = record {
+  counts = counts_none lines line_counts zeros;
+  next_is = first;
+  new = new;
+}
+
+-- one more is seated
+pub seating_next : (book : Book) (grid : Ladders) (n was next more : ℕ) (lines receipts : List Entry)
+    (line_counts now : List ℕ) (stake : Staked) (viewers rest : List Viewed)
+    → Seating book grid lines n line_counts was viewers → n < 9 → stake ≡ counted was 0 → receipts ≡ of_session n lines
+    → more ≡ length receipts
+    → now ≡ slice_set line_counts stake.number (slice_index line_counts stake.number + more) → next ≡ was + 1
+    → All (λ v. v ≡ opened book grid) rest → Seating book grid lines (n + 1) now next rest
+seating_next book grid n was next more lines receipts line_counts now stake viewers rest s high staked own many is up new = record {
+  counts = counts_seated n was lines receipts line_counts now stake more s.counts high staked s.next_is own many is;
+  next_is = up ∙ ap (λ (k : ℕ). k + 1) s.next_is;
+  new = new;
+}
 
 -- all lines are counted
 pub tied_over : (grid over : Ladders) (cap most n m : ℕ) (line_counts : List ℕ) (journal : List Entry)
@@ -102,11 +128,11 @@ tied_over grid over cap most n m line_counts journal c only legal capped same fu
 }
 
 -- one session more
-pub seated_more : (xs : List Seat) (n m : ℕ) (past : List Entry) → xs ≡ seated_sessions n past → m ≡ n + 1
-    → xs ++ seated m past ∷ [] ≡ seated_sessions m past
-seated_more xs n m past is e =
-    let up : m ≡ suc n = omega (arith, e) in
-    ap (λ (l : List Seat). l ++ seated m past ∷ []) is ∙ ap (λ (k : ℕ). seated_sessions n past ++ seated k past ∷ []) up ∙ sym (ap (λ (k : ℕ). seated_sessions k past) up)
+pub seated_more : (xs now : List Seat) (s : Seat) (n : ℕ) (past : List Entry) → xs ≡ seated_sessions n past
+    → now ≡ xs ++ s ∷ [] → s ≡ seated (n + 1) past → now ≡ seated_sessions (n + 1) past
+seated_more xs now s n past is more last =
+    let up : n + 1 ≡ suc n = omega arith in
+    more ∙ (λ i. is i ++ last i ∷ []) ∙ ap (λ (k : ℕ). seated_sessions n past ++ seated k past ∷ []) up ∙ sym (ap (λ (k : ℕ). seated_sessions k past) up)
 
 -- a session that goes on from these lines
 pub stands_seated : (grid : Ladders) (n id : ℕ) (receipts past : List Entry) → id ≤ n → n < 9 → IsLegal grid past
@@ -139,7 +165,7 @@ front_whole visible told front b g old all new note longer = ⊎_elim
 
 -- ---- line by line
 
-pub take_next : (lines : List Entry) (i : ℕ) (e : Entry) → i < length lines → e ≡ get_or lines i e
+take_next : (lines : List Entry) (i : ℕ) (e : Entry) → i < length lines → e ≡ get_or lines i e
     → take (i + 1) lines ≡ take i lines ++ e ∷ []
 take_next lines i e lt is = take_more lines i e lt ∙ ap (λ (x : Entry). take i lines ++ x ∷ []) (sym is)
 

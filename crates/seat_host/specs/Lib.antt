@@ -2,6 +2,8 @@ pub mod Lawful
 pub mod Ledgers
 pub mod Named
 pub mod Refusing
+pub mod Seating
+pub mod Seen
 pub mod Sessions
 pub mod Settling
 pub mod Shares

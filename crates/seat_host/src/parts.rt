@@ -147,7 +147,6 @@ pub fn showing<R: Wait>(
 }
 
 // Appends a copy of each line.
-#[tactic(auto, using(crate::proofs::Opening::legal_at_end, crate::proofs::Opening::short_at_end, crate::proofs::Opening::pending_next))]
 fn append_all(alloc: Global, publisher: &mut Publisher, lines: &[Entry]) -> Result<(), Memory>
     requires empty { (publisher.old.visible ≡ []) × (publisher.old.pending ≡ []) }
     requires legal { IsLegal publisher.old.grid lines.now }

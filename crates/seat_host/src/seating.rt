@@ -4,6 +4,7 @@ ghost use Rattle.seat_display.specs.Faces.{opened};
 ghost use Rattle.seat_rules.specs.Journal.{IsLegal};
 ghost use Rattle.seat_rules.specs.Histories.{of_session};
 ghost use Rattle.seat_host.specs.Lawful.{CountsFirst};
+ghost use Rattle.seat_host.specs.Seating.{Seating};
 ghost use Rattle.seat_host.specs.Sessions.{seated, seated_sessions};
 
 use crate::ledgers::{Hosting, LineCounts, Stakes};
@@ -18,7 +19,6 @@ use std::alloc::Global;
 
 /// The manager, and a session for each of the first numbers. They go on from these lines, which are visible, and their
 /// lines are counted.
-#[tactic(auto, using(crate::proofs::Opening::counts_none, crate::proofs::Opening::seated_more))]
 pub fn seat_all<K: Hosting>(
     alloc: Global,
     lines: &[Entry],
@@ -50,7 +50,37 @@ pub fn seat_all<K: Hosting>(
         &mut viewers,
         0,
     )?;
-    let manager = Manager { party };
+    let seats = seat_sessions(
+        alloc,
+        lines,
+        publisher,
+        line_counts,
+        &mut stakes,
+        &mut viewers,
+        sessions,
+    )?;
+    Ok((Manager { party }, seats))
+}
+
+// The sessions, once the manager is seated.
+fn seat_sessions<K: Hosting>(
+    alloc: Global,
+    lines: &[Entry],
+    publisher: &Publisher,
+    line_counts: &mut LineCounts<K>,
+    stakes: &mut Stakes<K>,
+    viewers: &mut Vec<Viewer>,
+    sessions: u8,
+) -> Result<Vec<Session<K>>, Memory>
+    requires few { length lines.now ≤ 999999 }
+    requires display { (publisher.now.book ≡ K.book) × (publisher.now.grid ≡ K.grid)
+        × (publisher.now.visible ≡ lines.now) }
+    requires seating { Seating K.book K.grid lines.now 1 line_counts.old stakes.old viewers.old.items }
+    requires viewers { vec_len viewers.old ≡ sessions }
+    requires sessions { (sessions ≡ K.sessions) × (sessions < 9) }
+    ensures sessions { IfOk result (λ r. r.items ≡ seated_sessions sessions lines.now) }
+    ensures seating { OnOk result (Seating K.book K.grid lines.now (sessions + 1) line_counts.new stakes.new viewers.new.items) }
+{
     let mut seats = Vec::new(alloc);
     for seated in 0..sessions {
         let party = seat_next(
@@ -58,17 +88,16 @@ pub fn seat_all<K: Hosting>(
             lines,
             publisher,
             line_counts,
-            &mut stakes,
-            &mut viewers,
+            stakes,
+            viewers,
             seated + 1,
         )?;
         seats.push(Session { party })?;
     }
-    Ok((manager, seats))
+    Ok(seats)
 }
 
 // Who has the next number.
-#[tactic(auto, using(crate::proofs::Opening::counts_seated, crate::proofs::Opening::stake_seated))]
 fn seat_next<K: Hosting>(
     alloc: Global,
     lines: &[Entry],
@@ -82,14 +111,10 @@ fn seat_next<K: Hosting>(
     requires few { length lines.now ≤ 999999 }
     requires display { (publisher.now.book ≡ K.book) × (publisher.now.grid ≡ K.grid)
         × (publisher.now.visible ≡ lines.now) }
-    requires line_counts { CountsFirst id lines.now line_counts.old }
-    requires stakes { stakes.old ≡ id }
+    requires seating { Seating K.book K.grid lines.now id line_counts.old stakes.old viewers.old.items }
     requires some { 0 < vec_len viewers.old }
-    requires new { All (λ v. v ≡ opened K.book K.grid) viewers.old.items }
     ensures party { IfOk result (λ p. p ≡ seated id lines.now) }
-    ensures line_counts { OnOk result (CountsFirst (id + 1) lines.now line_counts.new) }
-    ensures stakes { OnOk result (stakes.new ≡ id + 1) }
-    ensures rest { OnOk result (All (λ v. v ≡ opened K.book K.grid) viewers.new.items) }
+    ensures seating { OnOk result (Seating K.book K.grid lines.now (id + 1) line_counts.new stakes.new viewers.new.items) }
     ensures len { OnOk result (vec_len viewers.new + 1 ≡ vec_len viewers.old) }
 {
     let receipts = receipts_of(alloc, id, lines)?;
@@ -118,7 +143,6 @@ fn informed(publisher: &Publisher, viewer: Viewer) -> Viewer
 }
 
 // The lines of a session among these, as its receipts.
-#[tactic(auto, using(crate::proofs::Opening::own_next, crate::proofs::Opening::own_skip))]
 fn receipts_of(alloc: Global, session: u8, lines: &[Entry]) -> Result<Vec<Receipt>, Memory>
     ensures { IfOk result (λ r. r.items ≡ of_session session lines.now) }
 {

@@ -176,7 +176,6 @@ fn empty_lists(alloc: Global, sessions: u8) -> Result<Vec<Receipts>, Memory>
     Ok(lists)
 }
 
-#[tactic(auto, using(crate::proofs::Gathered::starts, crate::proofs::Gathered::goes_on, crate::proofs::Gathered::ends))]
 fn settle_all<K: Hosting, R: Wait>(
     rt: &R,
     under_lock: &mut UnderLock<K>,

@@ -1,0 +1,12 @@
+use Rattle.std.proofs.Common.{List, ◌∙◌, sym, subst}
+use Rattle.std.specs.List.{AllByRecursion}
+use Rattle.seat_journal.specs.declared.entry.Entry.{Entry}
+use Rattle.seat_host.specs.Sessions.{Seat}
+use Rattle.seat_host.specs.Settling.{IsConfirmed}
+use Rattle.seat_host.proofs.settling.refused.Goals as goal
+
+pub returns-clause-kept : goal.returns-clause-kept
+returns-clause-kept g c = (
+  subst (λ (x : List Entry × Seat). IsConfirmed g.K.Hosting.sessions x.0 x.1) (λ i. (sym (c.confirm_all.ensures.same.0 ∙ c.confirm.ensures.same.0) i, c.manager.view_is i)) c.confirm.ensures.confirmed,
+  subst (λ (x : List Entry × List Seat). AllByRecursion (IsConfirmed g.K.Hosting.sessions x.0) x.1) (λ i. (sym c.confirm_all.ensures.same.0 i, c.as_mut_slice.ensures.value i)) c.confirm_all.ensures.each,
+)
