@@ -17,6 +17,16 @@ use Rattle.seat_desk.proofs.Sealed.{based, fault_based}
 use Rattle.seat_desk.specs.declared.fault.DeskFault.{DeskFault}
 use Rattle.seat_desk.specs.declared.fault.DeskFault.TheVariants.{Memory}
 
+-- what follows from what is known of the set and the limits
+pub behind_load : (P : List ℕ → List ℕ → Type 0) (R : List ℕ → List ℕ → List ℕ → Type 0)
+    (set limits journal : Option (List ℕ)) → ((xs ys zs : List ℕ) → P xs ys → R xs ys zs)
+    → IfSome set (λ xs. IfSome limits (λ ys. P xs ys))
+    → IfSome set (λ xs. IfSome limits (λ ys. IfSome journal (λ zs. R xs ys zs)))
+behind_load P R (Some xs) (Some ys) (Some zs) step p = step xs ys zs p
+behind_load P R (Some xs) (Some ys) None step p = tt
+behind_load P R (Some xs) None journal step p = tt
+behind_load P R None limits journal step p = tt
+
 -- what follows from what is known of the set and the limits, of their digests, and of the journal
 if_based : (P : List ℕ → List ℕ → Type 0) (H : Type 0) (B : List ℕ → List ℕ → Type 0) (Q : List ℕ → Type 0)
     (R : List ℕ → List ℕ → List ℕ → Type 0) (set limits journal : Option (List ℕ))

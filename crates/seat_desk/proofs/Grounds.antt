@@ -1,12 +1,12 @@
 -- Why limit rows are refused, what they give, and what holds of every loaded grid.
-use Rattle.std.proofs.Common.{◌≡◌, ◌≢◌, ℕ, List, ◌≤◌, length, Option, Some, None, IfSome, Err, refl, sym, ap, subst, ◌∙◌}
+use Rattle.std.proofs.Common.{◌≡◌, ◌≢◌, ℕ, List, ◌<◌, ◌≤◌, length, Option, Some, None, IfSome, Err, refl, sym, inl, inr, subst, ◌∙◌}
 use Rattle.sha2.specs.Sha256.{sha256}
 use Rattle.seat_seal.specs.declared.beside.Basis.{Basis}
 use Rattle.seat_desk.specs.Sealing.{basis_of}
 use Rattle.std.specs.Str.Lines.{lines}
 use Rattle.ssim_flights.specs.declared.flight.Flight.{Flight as Flown}
 use Rattle.seat_limits.specs.Authorised.{authorised_grid}
-use Rattle.seat_limits.specs.LimitRows.{IsLimitText, rows_in}
+use Rattle.seat_limits.specs.LimitRows.{rows_in}
 use Rattle.seat_limits.specs.declared.limit_fault.LimitFault.{LimitFault}
 use Rattle.seat_limits.specs.declared.limit_fault.LimitKind.{LimitKind}
 use Rattle.seat_limits.specs.declared.limit_fault.LimitKind.TheVariants as limit_kinds
@@ -16,11 +16,11 @@ use Rattle.seat_nesting.specs.Nesting.{Ladders, HasLadders}
 use Rattle.seat_rules.proofs.History.Replays.{replay_holds_within}
 use Rattle.seat_desk.specs.Laws.{LoadedLaddersDiffer, LoadedReplaysKeepLimits}
 use Rattle.seat_desk.specs.CheckDesk.{most_set_bytes}
-use Rattle.seat_desk.specs.FlightsDesk.{IsSchedule}
-use Rattle.seat_desk.specs.Loading.{IsGridOf, IsGround, IsLoaded, IsRefusedLoad, IsUnlimited, most_limit_bytes, limit_refusal, limit_refusal_of}
-use Rattle.seat_desk.specs.declared.fault.DeskFault.TheVariants.{Limit, Memory}
+use Rattle.seat_desk.specs.FlightsDesk.{IsUnscheduled}
+use Rattle.seat_desk.specs.Halves.{HasFlights, HasRows}
+use Rattle.seat_desk.specs.Loading.{HasSchedule, IsFirstTooLargeLoad, IsGridOf, IsGround, IsLoaded, IsRefusedLoad, IsTooLargeLoad, IsUnlimited, LoadRefusal, most_limit_bytes, limit_refusal, limit_refusal_of}
+use Rattle.seat_desk.specs.declared.fault.DeskFault.TheVariants.{Flight, Limit, Memory, Set}
 use Rattle.seat_desk.specs.declared.fault.DeskFault.{DeskFault}
-use Rattle.seat_desk.specs.Desk.{IsOfInput}
 
 cases : (limits : List ℕ) (kind : LimitKind) (fault : LimitFault) → length limits ≤ most_limit_bytes
     → (kind ≢ limit_kinds.Memory → rows_in 1 (lines limits) ≡ Err fault)
@@ -33,79 +33,108 @@ pub refused_limits : (limits : List ℕ) (fault : LimitFault) → length limits 
     → limit_refusal fault ≢ Memory → IsUnlimited limits (limit_refusal fault)
 refused_limits limits fault = cases limits fault.kind fault
 
-of_limits : (set limits : List ℕ) (first days : ℕ) (flights : List Flown) (fault : DeskFault)
-    → length set ≤ most_set_bytes → IsSchedule set first days flights
-    → IsUnlimited limits fault → IsRefusedLoad set limits first days fault
-of_limits set limits first days flights (Limit fault) within schedule wrong =
-    record { refusal = record { flights = flights; set_within = within; is_schedule = schedule; wrong = wrong } }
-of_limits set limits first days flights _ within schedule wrong = absurd wrong
+-- what holds of the bytes that were read holds of the input
+pub of_input : (P : List ℕ → Type 0) (input : Option (List ℕ)) (bytes slice : List ℕ) → slice ≡ bytes
+    → IfSome input (λ xs. bytes ≡ xs) → P slice → IfSome input P
+of_input P (Some xs) bytes slice is whole held = subst P (is ∙ whole) held
+of_input P None bytes slice is whole held = tt
 
--- what was read of each input is all of it, and the limits are refused
-pub load_refused : (set limits : Option (List ℕ)) (first days : ℕ) (fault : DeskFault)
-    (bytes slice text text_slice : List ℕ) (flights : List Flown)
-    → slice ≡ bytes → IfSome set (λ xs. bytes ≡ xs) → length bytes ≤ most_set_bytes
-    → IsSchedule slice first days flights
-    → text_slice ≡ text → IfSome limits (λ ys. text ≡ ys)
-    → (fault ≢ Memory → IsUnlimited text_slice fault) → IsOfInput fault
-    → IfSome set (λ xs. IfSome limits (λ ys. IsRefusedLoad xs ys first days fault))
-load_refused (Some xs) (Some ys) first days fault bytes slice text text_slice flights of_set set_is set_fits schedule of_text text_is wrong input =
-    of_limits xs ys first days flights fault (subst (λ (l : List ℕ). length l ≤ most_set_bytes) set_is set_fits)
-    (subst (λ (l : List ℕ). IsSchedule l first days flights) (of_set ∙ set_is) schedule)
-    (subst (λ (l : List ℕ). IsUnlimited l fault) (of_text ∙ text_is) (wrong (λ (e : fault ≡ Memory). subst IsOfInput e input)))
-load_refused (Some xs) None first days fault bytes slice text text_slice flights of_set set_is set_fits schedule of_text text_is wrong input = tt
-load_refused None limits first days fault bytes slice text text_slice flights of_set set_is set_fits schedule of_text text_is wrong input = tt
+-- what follows from what is known of one input, or of both
+one_known : (P : List ℕ → Type 0) (R : List ℕ → List ℕ → Type 0) (set limits : Option (List ℕ))
+    → ((xs ys : List ℕ) → P xs → R xs ys) → IfSome set P → IfSome set (λ xs. IfSome limits (λ ys. R xs ys))
+one_known P R (Some xs) (Some ys) step p = step xs ys p
+one_known P R (Some xs) None step p = tt
+one_known P R None limits step p = tt
 
--- what was read of each input is all of it
-pub loaded_whole : (set limits : Option (List ℕ)) (first days : ℕ) (bytes slice text text_slice : List ℕ)
-    (flights : List Flown) (rows : List LimitRow) (grid : Ladders)
-    → slice ≡ bytes → IfSome set (λ xs. bytes ≡ xs) → length bytes ≤ most_set_bytes
-    → IsSchedule slice first days flights
-    → text_slice ≡ text → IfSome limits (λ ys. text ≡ ys) → length text ≤ most_limit_bytes → IsLimitText text_slice rows
-    → grid ≡ authorised_grid rows flights
-    → IfSome set (λ xs. IfSome limits (λ ys. IsLoaded xs ys first days flights grid))
-loaded_whole (Some xs) (Some ys) first days bytes slice text text_slice flights rows grid of_set set_is set_fits schedule of_limits limits_are limits_fit is_text grid_is = record {
-  set_within = subst (λ (l : List ℕ). length l ≤ most_set_bytes) set_is set_fits;
-  limits_within = subst (λ (l : List ℕ). length l ≤ most_limit_bytes) limits_are limits_fit;
-  loaded = record {
-    rows = rows;
-    is_schedule = subst (λ (l : List ℕ). IsSchedule l first days flights) (of_set ∙ set_is) schedule;
-    are_rows = subst (λ (l : List ℕ). IsLimitText l rows) (of_limits ∙ limits_are) is_text;
-    grid_is = grid_is;
-  };
-}
-loaded_whole (Some xs) None first days bytes slice text text_slice flights rows grid of_set set_is set_fits schedule of_limits limits_are limits_fit is_text grid_is = tt
-loaded_whole None limits first days bytes slice text text_slice flights rows grid of_set set_is set_fits schedule of_limits limits_are limits_fit is_text grid_is = tt
+both_known : (P Q : List ℕ → Type 0) (R : List ℕ → List ℕ → Type 0) (set limits : Option (List ℕ))
+    → ((xs ys : List ℕ) → P xs → Q ys → R xs ys) → IfSome set P → IfSome limits Q
+    → IfSome set (λ xs. IfSome limits (λ ys. R xs ys))
+both_known P Q R (Some xs) (Some ys) step p q = step xs ys p q
+both_known P Q R (Some xs) None step p q = tt
+both_known P Q R None limits step p q = tt
 
--- and so for the rows themselves
-pub ground_whole : (set limits : Option (List ℕ)) (first days : ℕ) (bytes slice text text_slice : List ℕ)
-    (flights : List Flown) (rows : List LimitRow)
-    → slice ≡ bytes → IfSome set (λ xs. bytes ≡ xs) → length bytes ≤ most_set_bytes
-    → IsSchedule slice first days flights
-    → text_slice ≡ text → IfSome limits (λ ys. text ≡ ys) → length text ≤ most_limit_bytes → IsLimitText text_slice rows
-    → IfSome set (λ xs. IfSome limits (λ ys. IsGround xs ys first days flights rows))
-ground_whole (Some xs) (Some ys) first days bytes slice text text_slice flights rows of_set set_is set_fits schedule of_limits limits_are limits_fit is_text = record {
-  set_within = subst (λ (l : List ℕ). length l ≤ most_set_bytes) set_is set_fits;
-  limits_within = subst (λ (l : List ℕ). length l ≤ most_limit_bytes) limits_are limits_fit;
-  is_schedule = subst (λ (l : List ℕ). IsSchedule l first days flights) (of_set ∙ set_is) schedule;
-  are_rows = subst (λ (l : List ℕ). IsLimitText l rows) (of_limits ∙ limits_are) is_text;
-}
-ground_whole (Some xs) None first days bytes slice text text_slice flights rows of_set set_is set_fits schedule of_limits limits_are limits_fit is_text = tt
-ground_whole None limits first days bytes slice text text_slice flights rows of_set set_is set_fits schedule of_limits limits_are limits_fit is_text = tt
+if_set : (set limits : List ℕ) (first days : ℕ) (fault : DeskFault) → IsUnscheduled first days fault set
+    → LoadRefusal set limits first days fault
+if_set set limits first days (Set fault) is = is
+if_set set limits first days (Flight fault) is = is
+if_set set limits first days _ is = absurd is.refused
 
--- the digests of what was read are those of each input
-pub based_whole : (set limits : Option (List ℕ)) (first days : ℕ)
-    (bytes slice text text_slice set_digest limits_digest : List ℕ)
-    → slice ≡ bytes → IfSome set (λ xs. bytes ≡ xs) → text_slice ≡ text → IfSome limits (λ ys. text ≡ ys)
-    → set_digest ≡ sha256 slice → limits_digest ≡ sha256 text_slice
-    → IfSome set (λ xs. IfSome limits (λ ys.
-    ◌≡◌ {A = Basis} (record { set = set_digest; limits = limits_digest; first = first; days = days })
-    (basis_of xs ys first days)))
-based_whole (Some xs) (Some ys) first days bytes slice text text_slice a b of_set set_is of_limits limits_are a_is b_is =
-    let same_set : a ≡ sha256 xs = a_is ∙ ap sha256 (of_set ∙ set_is) in
-    let same_limits : b ≡ sha256 ys = b_is ∙ ap sha256 (of_limits ∙ limits_are) in
-    rw (same_set, same_limits) refl
-based_whole (Some xs) None first days bytes slice text text_slice a b of_set set_is of_limits limits_are a_is b_is = tt
-based_whole None limits first days bytes slice text text_slice a b of_set set_is of_limits limits_are a_is b_is = tt
+if_limits : (set limits : List ℕ) (first days : ℕ) (flights : List Flown) (fault : DeskFault)
+    → HasFlights first days flights set → IsUnlimited limits fault → LoadRefusal set limits first days fault
+if_limits set limits first days flights (Limit fault) h wrong =
+    record { flights = flights; set_within = h.within; is_schedule = h.is_schedule; wrong = wrong }
+if_limits set limits first days flights _ h wrong = absurd wrong
+
+module _ (set limits : Option (List ℕ)) (first days : ℕ) where
+  -- the set is refused
+  pub set_refused : (fault : DeskFault) → IfSome set (IsUnscheduled first days fault)
+      → IfSome set (λ xs. IfSome limits (λ ys. IsRefusedLoad xs ys first days fault))
+  set_refused fault =
+      one_known (IsUnscheduled first days fault) (λ xs ys. IsRefusedLoad xs ys first days fault) set limits (λ xs ys is. record { refusal = if_set xs ys first days fault is })
+
+  pub set_large : IfSome set (λ xs. most_set_bytes < length xs)
+      → IfSome set (λ xs. IfSome limits (λ ys. IsTooLargeLoad xs ys))
+  set_large = one_known (λ xs. most_set_bytes < length xs) IsTooLargeLoad set limits (λ xs ys more. inl more)
+
+  pub set_first_large : IfSome set (λ xs. most_set_bytes < length xs)
+      → IfSome set (λ xs. IfSome limits (λ ys. IsFirstTooLargeLoad xs ys first days))
+  set_first_large =
+      one_known (λ xs. most_set_bytes < length xs) (λ xs ys. IsFirstTooLargeLoad xs ys first days) set limits (λ xs ys more. inl more)
+
+  module _ (flights : List Flown) (flown : IfSome set (HasFlights first days flights)) where
+    -- the set is right
+    pub scheduled : IfSome set (HasSchedule first days)
+    scheduled = if_some set flown
+      where
+        if_some : (set : Option (List ℕ)) → IfSome set (HasFlights first days flights) → IfSome set (HasSchedule first days)
+        if_some (Some xs) h = record { flights = flights; within = h.within; is_schedule = h.is_schedule }
+        if_some None h = tt
+
+    -- and the limits are refused
+    pub rows_refused : (fault : DeskFault) → IfSome limits (λ ys. IsUnlimited ys fault)
+        → IfSome set (λ xs. IfSome limits (λ ys. IsRefusedLoad xs ys first days fault))
+    rows_refused fault =
+        both_known (HasFlights first days flights) (λ ys. IsUnlimited ys fault) (λ xs ys. IsRefusedLoad xs ys first days fault) set limits
+        (λ xs ys h wrong. record { refusal = if_limits xs ys first days flights fault h wrong }) flown
+
+    pub rows_large : IfSome limits (λ ys. most_limit_bytes < length ys)
+        → IfSome set (λ xs. IfSome limits (λ ys. IsTooLargeLoad xs ys))
+    rows_large =
+        both_known (HasFlights first days flights) (λ ys. most_limit_bytes < length ys) IsTooLargeLoad set limits (λ xs ys h more. inr more) flown
+
+    pub rows_first_large : IfSome limits (λ ys. most_limit_bytes < length ys)
+        → IfSome set (λ xs. IfSome limits (λ ys. IsFirstTooLargeLoad xs ys first days))
+    rows_first_large =
+        both_known (HasFlights first days flights) (λ ys. most_limit_bytes < length ys) (λ xs ys. IsFirstTooLargeLoad xs ys first days) set limits
+        (λ xs ys h more. inr (record { ahead = record { flights = flights; within = h.within; is_schedule = h.is_schedule }; here = more })) flown
+
+    -- and so are the limits
+    pub ground_whole : (rows : List LimitRow) → IfSome limits (HasRows rows)
+        → IfSome set (λ xs. IfSome limits (λ ys. IsGround xs ys first days flights rows))
+    ground_whole rows =
+        both_known (HasFlights first days flights) (HasRows rows) (λ xs ys. IsGround xs ys first days flights rows) set limits
+        (λ xs ys h r. record { set_within = h.within; limits_within = r.within; is_schedule = h.is_schedule; are_rows = r.are_rows }) flown
+
+    pub loaded_whole : (rows : List LimitRow) (grid : Ladders) → IfSome limits (HasRows rows)
+        → grid ≡ authorised_grid rows flights
+        → IfSome set (λ xs. IfSome limits (λ ys. IsLoaded xs ys first days flights grid))
+    loaded_whole rows grid has_rows is =
+        both_known (HasFlights first days flights) (HasRows rows) (λ xs ys. IsLoaded xs ys first days flights grid) set limits
+        (λ xs ys h r. record {
+          set_within = h.within;
+          limits_within = r.within;
+          loaded = record { rows = rows; is_schedule = h.is_schedule; are_rows = r.are_rows; grid_is = is };
+        }) flown has_rows
+
+  -- the digests of what was read are those of each input
+  pub based_whole : (a b : List ℕ) → IfSome set (λ xs. a ≡ sha256 xs) → IfSome limits (λ ys. b ≡ sha256 ys)
+      → IfSome set (λ xs. IfSome limits (λ ys.
+      ◌≡◌ {A = Basis} (record { set = a; limits = b; first = first; days = days })
+      (basis_of xs ys first days)))
+  based_whole a b =
+      both_known (λ xs. a ≡ sha256 xs) (λ ys. b ≡ sha256 ys)
+      (λ xs ys. ◌≡◌ {A = Basis} (record { set = a; limits = b; first = first; days = days }) (basis_of xs ys first days)) set limits
+      (λ xs ys a_is b_is. λ i. record { set = a_is i; limits = b_is i; first = first; days = days })
 
 -- flights and rows that are right make a loaded grid, and a loaded grid has such rows
 pub loaded_of_ground : (set limits : List ℕ) (first days : ℕ) (flights : List Flown) (rows : List LimitRow)

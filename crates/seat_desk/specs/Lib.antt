@@ -4,6 +4,7 @@ pub mod CheckDesk
 pub mod Desk
 pub mod FaultText
 pub mod FlightsDesk
+pub mod Halves
 pub mod Laws
 pub mod Loading
 pub mod Sealing

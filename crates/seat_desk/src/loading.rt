@@ -1,10 +1,13 @@
 //! The flights of a data set, and the grid that limit rows give them on the dates of a horizon.
-ghost use Rattle.std.specs.Prelude.{◌≡◌, ◌≢◌, ◌<◌, ◌≤◌, IfErr, IfOk, IsTrue, length};
+ghost use Rattle.std.specs.Prelude.{◌≡◌, ◌≢◌, ◌<◌, ◌≤◌, IfErr, IfOk, IfSome, IsTrue, length};
 ghost use Rattle.sha2.specs.Sha256.{sha256};
 ghost use Rattle.ssim_flights.specs.Right.{IsOfCentury};
 ghost use Rattle.seat_limits.specs.Authorised.{authorised_grid};
 ghost use Rattle.seat_limits.specs.LimitRows.{IsLimitText};
-ghost use Rattle.seat_desk.specs.Desk.{IsOfInput};
+ghost use Rattle.seat_desk.specs.CheckDesk.{most_set_bytes};
+ghost use Rattle.seat_desk.specs.Desk.{HasFailed, IsOfInput};
+ghost use Rattle.seat_desk.specs.FlightsDesk.{IsUnscheduled};
+ghost use Rattle.seat_desk.specs.Halves.{HasFlights, HasRows};
 ghost use Rattle.seat_desk.specs.Sealing.{IsBasisOf};
 ghost use Rattle.seat_desk.specs.Loading.{HasFirstLoadFailed, HaveFailed, IsFirstTooLargeLoadOf, IsGridOf, IsGroundOf, IsLoadedOf, IsRefusedLoadOf, IsTooLargeLoadOf, IsUnlimited, limit_refusal, most_limit_bytes};
 
@@ -12,7 +15,7 @@ use crate::fault::DeskFault;
 use crate::inputs::Inputs;
 use crate::schedule::{MOST_SET_BYTES, scheduled};
 use crate::streams::read_input;
-use airline_base::NotedRead;
+use airline_base::{Day, NotedRead};
 use seat_limits::{LimitFault, LimitKind, LimitRows, build_grid, read_limits};
 use seat_nesting::Grid;
 use seat_seal::{Basis, Digest, digest_of};
@@ -86,15 +89,20 @@ pub fn load_based<S: NotedRead, L: NotedRead>(
         HasFirstLoadFailed S.remaining S.failure_count L.failure_count inputs.old inputs.new) }
     ensures basis { IfOk result (λ b. IsTrue has_seal → IsBasisOf S.remaining L.remaining inputs.old b.basis) }
 {
-    let bytes = read_input(alloc, &mut inputs.set, MOST_SET_BYTES)?;
-    let flights = scheduled(alloc, &bytes, inputs.first, inputs.days)?;
-    let set = digest_where(has_seal, &bytes);
-    let bytes = read_input(alloc, &mut inputs.limits, MOST_LIMIT_BYTES)?;
-    let rows = match limit_rows(alloc, &bytes) {
-        Ok(rows) => rows,
+    let (flights, set) = match read_flights(
+        alloc,
+        &mut inputs.set,
+        inputs.first,
+        inputs.days,
+        has_seal,
+    ) {
+        Ok(read) => read,
         Err(fault) => return Err(fault),
     };
-    let limits = digest_where(has_seal, &bytes);
+    let (rows, limits) = match read_rows(alloc, &mut inputs.limits, has_seal) {
+        Ok(read) => read,
+        Err(fault) => return Err(fault),
+    };
     let grid = grid_of(alloc, &flights, &rows)?;
     Ok(Based {
         loaded: Loaded {
@@ -109,6 +117,46 @@ pub fn load_based<S: NotedRead, L: NotedRead>(
             days: inputs.days,
         },
     })
+}
+
+// The flights of a data set, and the digest of its bytes where it is asked for.
+fn read_flights<S: NotedRead>(
+    alloc: Global,
+    input: &mut S,
+    first: Day,
+    days: u16,
+    has_seal: bool,
+) -> Result<(Flights, Digest), DeskFault>
+    requires first { IsOfCentury first }
+    requires days { (1 ≤ days) × (days ≤ 366) }
+    ensures flights { IfOk result (λ r. IfSome (S.remaining input.old) (HasFlights first days r.0)) }
+    ensures digest { IfOk result (λ r. IsTrue has_seal → IfSome (S.remaining input.old) (λ xs. r.1 ≡ sha256 xs)) }
+    ensures fault { IfErr result (λ f. IsOfInput f → IfSome (S.remaining input.old) (IsUnscheduled first days f)) }
+    ensures large { IfErr result (λ f. f ≡ DeskFault.TooLarge
+        → IfSome (S.remaining input.old) (λ xs. most_set_bytes < length xs)) }
+    ensures device { IfErr result (λ f. f ≡ DeskFault.Device → HasFailed S.failure_count input.old input.new) }
+{
+    let bytes = read_input(alloc, input, MOST_SET_BYTES)?;
+    let flights = scheduled(alloc, &bytes, first, days)?;
+    Ok((flights, digest_where(has_seal, &bytes)))
+}
+
+// The rows of a text of limits, and the digest of its bytes where it is asked for.
+fn read_rows<L: NotedRead>(
+    alloc: Global,
+    input: &mut L,
+    has_seal: bool,
+) -> Result<(LimitRows, Digest), DeskFault>
+    ensures rows { IfOk result (λ r. IfSome (L.remaining input.old) (HasRows r.0)) }
+    ensures digest { IfOk result (λ r. IsTrue has_seal → IfSome (L.remaining input.old) (λ ys. r.1 ≡ sha256 ys)) }
+    ensures fault { IfErr result (λ f. IsOfInput f → IfSome (L.remaining input.old) (λ ys. IsUnlimited ys f)) }
+    ensures large { IfErr result (λ f. f ≡ DeskFault.TooLarge
+        → IfSome (L.remaining input.old) (λ ys. most_limit_bytes < length ys)) }
+    ensures device { IfErr result (λ f. f ≡ DeskFault.Device → HasFailed L.failure_count input.old input.new) }
+{
+    let bytes = read_input(alloc, input, MOST_LIMIT_BYTES)?;
+    let rows = limit_rows(alloc, &bytes)?;
+    Ok((rows, digest_where(has_seal, &bytes)))
 }
 
 /// The digest of these bytes, where it is asked for.
