@@ -1,3 +1,4 @@
 pub mod Owning
+pub mod Places
 pub mod Spelling
 pub mod Tellings

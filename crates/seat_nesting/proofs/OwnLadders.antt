@@ -1,10 +1,11 @@
 -- Own ladders: what is set on a leg changes the steps of that leg alone.
-use Rattle.std.proofs.Common.{◌≡◌, ◌≢◌, ◌==◌, ℕ, zero, suc, ◌+◌, ◌-◌, ◌<◌, ◌≤◌, Bool, true, false, if◌then◌else◌, cond, ◌&&◌, Option, List, [], ◌∷◌, ◌++◌, length, map, get_or, set, unwrap_or, refl, ap, sym, subst, ◌∙◌, arith}
+use Rattle.std.proofs.Common.{◌≡◌, ◌≢◌, ◌==◌, ℕ, zero, suc, ◌+◌, ◌-◌, ◌<◌, ◌≤◌, Bool, true, false, if◌then◌else◌, cond, ◌&&◌, Option, Some, None, ltb, List, [], ◌∷◌, ◌++◌, length, map, get_or, set, unwrap_or, refl, ap, sym, subst, ◌∙◌, arith}
 use Rattle.std.specs.List.{slice_get}
-use Rattle.std.proofs.lemmas.Bool.{eqb-true, and_parts}
+use Rattle.std.specs.Option.{is_some, IfNone, IfSome}
+use Rattle.std.proofs.lemmas.Bool.{eqb-true, ltb-false, ltb-true, and_parts}
 use Rattle.std.proofs.lemmas.List.{map-set, set-get_or, length-map, length-set, length-append, get_or-set_same, get_or-set_other, get_or_append_left, get_or-append_right}
 use Rattle.std.proofs.lemmas.List.Sums.{sum_by-set, get_or-le-sum_by}
-use Rattle.std.proofs.lemmas.Option.{unwrap_or-slice_get, slice_get-get_or}
+use Rattle.std.proofs.lemmas.Option.{unwrap_or-slice_get, slice_get-get_or, slice_get_past}
 use Rattle.seat_nesting.specs.Nesting.{Steps, IsLadder, steps_at}
 use Rattle.seat_nesting.specs.Counting.{LegSeats, Counted, leg_of, held_on, count_at, leg_at, no_leg, IsWithinLimits}
 use Rattle.seat_nesting.specs.declared.setting.Setting.{Setting}
@@ -53,6 +54,17 @@ steps_after pool (Shared j) setting there =
 steps_after pool (Own i) setting there =
     let new = with_setting (steps_at pool.own i) setting in
     unwrap_or-slice_get (set pool.own i new) i [] ∙ get_or-set_same pool.own i new [] (there i refl)
+
+-- an own ladder that is looked up
+pub own_found : {T : Type 0} (own : List Steps) (i : ℕ) (o : Option T) (now : T → Steps) → is_some o ≡ ltb i (length own)
+    → IfSome o (λ x. now x ≡ get_or own i (now x)) → IfSome o (λ x. now x ≡ steps_at own i)
+own_found own i None now there is = tt
+own_found own i (Some x) now there is =
+    is ∙ ap (λ (s : Option Steps). unwrap_or s []) (sym (slice_get-get_or own i (now x) (ltb-true i (length own) (sym there))))
+
+pub own_none : {T : Type 0} (own : List Steps) (i : ℕ) (o : Option T) → is_some o ≡ ltb i (length own) → IfNone o (steps_at own i ≡ [])
+own_none own i None there = ap (λ (s : Option Steps). unwrap_or s []) (slice_get_past own i (ltb-false i (length own) (sym there)))
+own_none own i (Some x) there = tt
 
 -- the own ladder of this number
 pub own_at : (pool : Pool) (limits : Limits) (i : ℕ) (x : Steps) → limits ≡ Own i → i < length pool.own

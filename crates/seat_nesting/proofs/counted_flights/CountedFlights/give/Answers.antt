@@ -1,6 +1,6 @@
 use Rattle.std.proofs.Common.{◌≡◌, ◌+◌, ◌-◌, ap, ◌∙◌, arith}
 use Rattle.seat_nesting.specs.OwnLadders.{counted_at, put, with_held}
-use Rattle.seat_nesting.proofs.FlatCounts.{finds, finds_inside, finds_number, finds_written}
+use Rattle.seat_nesting.proofs.FlatCounts.{finds, finds_inside, finds_number, finds_written, still_laid}
 use Rattle.seat_nesting.proofs.counted_flights.CountedFlights.give.Goals as goal
 
 pub overflow_add-start : goal.overflow_add-start
@@ -27,3 +27,7 @@ returns c =
     let number = finds_number c.self.inside.run.items c.self.inside.legs.items c.self.inside.flights.items c.args.self.now c.args.flight c.args.leg c.in-Some.i c.index.result.now c.args.rank c.index_mut.result.now f c.requires.rank c.index_mut.ensures.value in
     finds_written c.self.inside.run.items c.self.inside.legs.items c.self.inside.flights.items c.args.self.now c.args.flight c.args.leg c.in-Some.i c.index.result.now c.args.rank (c.index_mut.result.now - c.args.seats) f c.requires.rank
     ∙ ap (λ n. put c.args.self.now c.args.flight c.args.leg (with_held (counted_at c.args.self.now c.args.flight c.args.leg) c.args.rank (n - c.args.seats))) number
+
+pub invariant_of-self : goal.invariant_of-self
+invariant_of-self c =
+    still_laid c.self.inside.run.items c.self.inside.legs.items c.self.inside.flights.items (c.index.result.now.start + c.args.rank) (c.index_mut.result.now - c.args.seats) c.self.invariant
