@@ -28,6 +28,7 @@ SECONDS = 20  # of silence, behind which what has no answer is sent once more; t
 MOST = 4096  # lines of a shard that may be without an answer
 ADVICE = re.compile(r" KL\d+$")
 ROW_FAULT = re.compile(r"0 FAULT (?!H|B1).* @(\d+)")  # of a row of the manager that can't be carried out, with the number that it had
+LEADING = re.compile(r"^(..)0+(?=\d)")  # zeros ahead of the number of a flight, or of seats
 Row = collections.namedtuple("Row", "session place text")  # whose it is, its line in the script, and the address, the locator and the line, or the manager's row
 
 
@@ -43,6 +44,15 @@ class Line:
     def told(self):
         """Its answer, without whose it is."""
         return self.answer[2 if " FAULT " in self.answer else 4 :]
+
+
+def speaks_of(reply, row):
+    """Whether a reply speaks of this row: of its locator, segment and seats, or of the manager's flight and day. A segment that no flight has is '-'."""
+    words = [text.split("/")[0].split(" ")[at:] for text, at in ((reply, 3), (row.text, 1))]
+    told, asked = ([LEADING.sub(r"\1", word) for word in own] for own in words)
+    if not row.session:
+        return told[:2] == asked[:2]
+    return told[0] == asked[0] and told[1:-1] in (["-"], asked[1:-1]) and told[-1][2:] == asked[-1][2:]
 
 
 def body_of(lines, head):
@@ -125,7 +135,7 @@ class Shard:
         if not ADVICE.search(text):
             self.own[int(session)] += 1
             lines = self.of_call[int(session), self.own[int(session)]]
-            if not lines or of.split(" ")[0] != self.memory.own:
+            if not lines or of.split(" ")[0] != self.memory.own or not speaks_of(text, lines[-1].row):
                 fail(f"shard {self.shard} has a line of session {session} that was not sent from here: {text}")
             self.answer(lines[-1], text)
         return True

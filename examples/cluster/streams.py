@@ -18,13 +18,13 @@ import time
 import traceback
 
 import pika
-from pika.exceptions import AMQPError, ChannelClosedByBroker, ProbableAuthenticationError
+from pika.exceptions import AMQPError, ChannelClosedByBroker
 
 NODES = os.environ.get("LOG_NODES", "amqp://127.0.0.1:5681,amqp://127.0.0.1:5682,amqp://127.0.0.1:5683").split(",")
 KEPT = {"x-queue-type": "stream", "x-initial-cluster-size": 3, "x-queue-leader-locator": "balanced"}
 MOST = 200  # messages that are on their way to a follower
 LOST = (AMQPError, OSError)
-SHUT = re.compile(r"ACCESS_REFUSED|inequivalent arg|NOT_FOUND - no (queue|exchange)")
+SHUT = re.compile(r"ACCESS_REFUSED|inequivalent arg|NOT_FOUND - no (queue|exchange)|\b(SSL|SSLCertVerification|FileNotFound|Permission)Error\(")
 
 
 def connected(nodes):
@@ -45,7 +45,7 @@ def connected(nodes):
 
 def pass_lost(fault):
     """A node that is lost comes back. A door that is shut does not open, nor one that is not there."""
-    if isinstance(fault, (ssl.SSLError, ProbableAuthenticationError)) or SHUT.search(str(fault)):
+    if SHUT.search(repr(fault)):
         fail(fault)
 
 
