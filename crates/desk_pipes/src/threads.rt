@@ -1,5 +1,5 @@
 //! The threads of a desk: one reads its lines, one writes what it is told, and one writes a host's mark. What the first runs is here, and who starts it is above.
-ghost use Rattle.std.specs.Prelude.{◌≡◌, ◌≤◌, length, map, OnOk};
+ghost use Rattle.std.specs.Prelude.{◌≡◌, ◌≤◌, IfOk, IfSome, length, map, OnOk, vec_capacity};
 ghost use Rattle.desk_pipes.specs.Cutting.{lines_cut, rest_cut};
 ghost use Rattle.desk_pipes.specs.Answering.{is_answered};
 
@@ -89,7 +89,12 @@ struct Progress {
 
 impl Reading {
     /// Nothing of a session's pipe is read yet. A mark may be written to it.
-    pub fn new(alloc: Global, session: u8, mark: Option<Mark>) -> Result<Reading, Memory> {
+    pub fn new(alloc: Global, session: u8, mark: Option<Mark>) -> Result<Reading, Memory>
+        ensures mark { IfOk result (λ it. it.mark ≡ mark) }
+        ensures session { IfOk result (λ it. it.progress.session ≡ session) }
+        ensures lines { IfOk result (λ it. 512 ≤ vec_capacity it.progress.lines) }
+        ensures held { IfSome mark (λ m. IfOk result (λ it. 2097152 ≤ vec_capacity it.held)) }
+    {
         let held = match mark {
             Some(_) => Vec::with_capacity(alloc, MOST_AHEAD)?,
             None => Vec::new(alloc),
