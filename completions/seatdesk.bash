@@ -125,9 +125,9 @@ _seatdesk() {
         place='files'
         ;;
     carry)
-        words='--from --to --today --journal --protect --order --displace --fresh-limits --anew --dry-run --csv --json -v --verbose --quiet -h --help'
+        words='--from --to --today --journal --protect --order --displace --fresh-limits --anew --shard --dry-run --csv --json -v --verbose --quiet -h --help'
         files='--from --to --journal --protect --order'
-        values='--today'
+        values='--today --shard'
         place='files'
         ;;
     changes)
@@ -174,7 +174,7 @@ _seatdesk() {
         ;;
     explain)
         words='A1 A2 A3 A4 A5 A6 A7 A8 A9 B1 C1 CARRY DEVICE E1 E2 F1 F2 F3 F4 F5 F6 F7 F8 F9 FEED G1 G2 G3 G4 G5 G6 H1 H2 H3 H4 H5 H6 J1 J2 J3 J4 K1 L1 L2 L3 L4 M1 M2 M3 M4 M5 M6 M7 MEMORY P1 P2 P3 P4 P5 P6 P7 P8 P9 Q1 Q2 Q3 R2 S1 S2 S3 S4 S5 S6 S7 S8 S9 S10 S11 S12 S13 S14 S15 SEAL SEASON T1 T2 T3 T4 U1 V1 V2 V3 W1 -v --verbose --quiet -h --help'
-        [ "$before" != E2 ] || words='behind by day days desk first flight form html journal line locator pair refused script session shards status today words'
+        [ "$before" != E2 ] || words='behind by day days desk first flight form html journal line locator pair refused script session shard shards status today words'
         [ "$before" != SEAL ] || words='again behind carried days first form journal limits none runs set'
         [ "$before" != CARRY ] || words='new unfinished'
         [ "$before" != SEASON ] || words='form key missing value'

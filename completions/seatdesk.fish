@@ -252,6 +252,7 @@ complete -c seatdesk -n '__fish_seen_subcommand_from carry' -l order -r -F -d 'L
 complete -c seatdesk -n '__fish_seen_subcommand_from carry' -l displace -d 'Where a leg has too few seats the bookings of the highest numbers lose theirs, those of --order last, and wait where they may; without it no file is written then'
 complete -c seatdesk -n '__fish_seen_subcommand_from carry' -l fresh-limits -d 'The limits are those of the season of --to, without what changes and closings of JOURNAL set'
 complete -c seatdesk -n '__fish_seen_subcommand_from carry' -l anew -d 'Takes the place of a carry of JOURNAL that did not end, and had another result'
+complete -c seatdesk -n '__fish_seen_subcommand_from carry' -l shard -x -d 'Makes NEW the journal of shard H of M hosts with different flights, by the hash of route; NEW ends in .H then, and the same is sent for each H of 1 to M'
 complete -c seatdesk -n '__fish_seen_subcommand_from carry' -l dry-run -d 'Writes the report alone: neither NEW nor the seal of JOURNAL'
 complete -c seatdesk -n '__fish_seen_subcommand_from carry' -l csv -d 'Writes the rows as CSV, below a line of the columns\' names'
 complete -c seatdesk -n '__fish_seen_subcommand_from carry' -l json -d 'Writes the rows as JSON, an object a line'

@@ -101,12 +101,12 @@ as_many_answers : (f : Belonging → Result (Option Hand) HandRefusal) (knowns :
 as_many_answers f [] = refl
 as_many_answers f (k ∷ knowns) = let more : length (map f knowns) ≡ length knowns = as_many_answers f knowns in omega (arith, more)
 
-pub as_many_judged : (knowns : List Belonging) (name : List ℕ) (there beside : Option (List ℕ)) (text : List ℕ) (anew : Bool) (hands : Judgement)
-    → IsJudged knowns name there beside text anew hands → length hands.each ≡ length knowns
-as_many_judged knowns name there beside text anew hands judged =
+pub as_many_judged : (knowns : List Belonging) (name whole : List ℕ) (there beside : Option (List ℕ)) (text : List ℕ) (anew : Bool) (hands : Judgement)
+    → IsJudged knowns name whole there beside text anew hands → length hands.each ≡ length knowns
+as_many_judged knowns name whole there beside text anew hands judged =
     ap length judged.hands_are
-    ∙ (each_judged (answers_for knowns name there judged.seal text anew) 1 judged.none
-    ∙ as_many_answers (λ (k : Belonging). hand_for k.era.carried name there judged.seal text anew) knowns)
+    ∙ (each_judged (answers_for knowns name whole there judged.seal text anew) 1 judged.none
+    ∙ as_many_answers (λ (k : Belonging). hand_for k.era.carried name whole there judged.seal text anew) knowns)
 
 -- ---- what stands beside each
 

@@ -5,15 +5,18 @@ ghost use Rattle.seat_seal.specs.Imprints.{imprint_of};
 ghost use Rattle.seat_seal.specs.Reading.{two_entries};
 ghost use Rattle.seat_seal.specs.Rules.{is_imprint, is_seal, is_sealed};
 ghost use Rattle.seat_seal.specs.declared.seal.SealEntry.TheVariants.{Sealed as IsSealed};
+ghost use Rattle.carry_plans.specs.Carries.{marked_text};
 ghost use Rattle.seat_handing.specs.Marking.{mark_of};
 ghost use Rattle.ssim_flights.specs.Right.{IsOfCentury};
 
 use crate::inputs::{Seasons, made, seasons_of, unmade};
 use crate::lists::{order_of, protections_of};
+use crate::parting::part_asked;
 use crate::placing::{Newer, Older, failed, newer_locked, newer_named, older_locked, standing};
 use crate::several::{carried_together, tried_together};
 use airline_base::put_all;
-use carry_plans::{Carriage, CarryAsked};
+use carry_parts::Part;
+use carry_plans::{Carriage, CarryAsked, text_for};
 use command_inputs::{day_of_run, days_of};
 use progress_meter::Meter;
 use question_words::form_asked;
@@ -40,6 +43,7 @@ pub fn carry<'a, R: Threads + Sync>(
     let to_days = days_of(to.first, to.days)?;
     let today = day_of_run(asked.today)?;
     let form: Option<Form> = form_asked(asked.shape, false)?;
+    let part: Option<Part> = part_asked(asked.shard, asked.new)?;
     if !asked.dry_run {
         newer_named(rt, asked.new)?;
     }
@@ -56,6 +60,7 @@ pub fn carry<'a, R: Threads + Sync>(
         fresh_limits: asked.fresh_limits,
         counts: &[],
         form,
+        part,
     };
     let mut seasons = match seasons_of(rt, from, from_days, to, to_days) {
         Ok(seasons) => seasons,
@@ -163,7 +168,7 @@ fn carried<'a, R: Threads + Sync>(
     requires to_days { (1 ≤ seasons.old.to.days) × (seasons.old.to.days ≤ 366) }
     requires rows { length asking.now.protections.now ≤ 16777216 }
 {
-    let newer = match newer_locked(rt, asked, seasons, older) {
+    let newer = match newer_locked(rt, asked, asking.part, seasons, older) {
         Ok(newer) => newer,
         Err(refusal) => return Err(refusal),
     };
@@ -246,13 +251,14 @@ fn handed<'a>(
     let text_of_new = carriage.text.as_slice();
     if !is_sealed(&carriage.known)
         || !may_be_sealed(&before, &carriage.entry)
-        || !may_be_marked(newer.path.as_str(), text_of_new)
+        || !may_be_marked(newer.name.as_str(), carriage.marked())
     {
         return Err(Refusal::barred(asked.new, TOO_LONG));
     }
     let hand = match may_hand(
         &carriage.known,
-        newer.path.as_str(),
+        newer.name.as_str(),
+        carriage.marked(),
         Some(&there),
         slice_of(&stood),
         text_of_new,
@@ -296,7 +302,7 @@ fn put<'a>(
 ) -> Result<(), Refusal<'a>>
     requires known { is_sealed carriage.known ≡ true }
     requires rules { IsTrue (is_seal (two_entries before (IsSealed carriage.entry))) }
-    requires fits { is_imprint (mark_of (string_bytes newer.old.path) carriage.text) ≡ true }
+    requires fits { is_imprint (mark_of (string_bytes newer.old.name) (marked_text carriage)) ≡ true }
     requires imprint { carriage.entry.journal.imprint ≡ imprint_of (front_of carriage.text) }
 {
     let Carriage {
@@ -304,6 +310,7 @@ fn put<'a>(
         entry,
         report,
         known,
+        whole,
     } = carriage;
     let outcome = hand_over(
         hand,
@@ -311,7 +318,8 @@ fn put<'a>(
         bytes_of(seal_text),
         before,
         entry,
-        newer.path.as_str(),
+        newer.name.as_str(),
+        text_for(&text, &whole),
         text.as_slice(),
         report.as_slice(),
         &mut older.seal,

@@ -7,6 +7,7 @@ mod inputs;
 mod lists;
 mod marking;
 mod naming;
+mod parting;
 mod placing;
 mod several;
 

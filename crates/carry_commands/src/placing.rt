@@ -1,6 +1,8 @@
 //! The two journals of a carry and their seals, each under its lock.
 //! It knows which of them is locked first, and what goes where nothing is carried.
 use crate::inputs::Seasons;
+use crate::parting::mark_name;
+use carry_parts::Part;
 use seat_desk::DeskFault;
 use seat_files::{Guard, Input, JournalFile, Refusal, SealOut, files_taken};
 use seat_words::CarryJob;
@@ -8,6 +10,9 @@ use std::fs;
 
 /// Why a new journal that is a pipe or a device is refused: it can't be written once more where a carry did not end.
 const NO_FILE: &str = "Is no regular file";
+
+/// Why one is refused that a link leads to under a name that does not end with the number of its shard.
+const NO_SHARD: &str = "Leads to a name without the shard's number";
 
 /// The journal whose bookings are carried, under its lock: its seal, and what it has.
 #[derive(Drop)]
@@ -53,8 +58,9 @@ pub(crate) fn newer_named<'a>(rt: &HostRuntime, new: &'a str) -> Result<(), Refu
 pub(crate) struct Newer<'a> {
     pub journal: JournalFile<'a>,
     pub seal: SealOut<'a>,
-    /// Where its name leads from the root, through links: it is the same journal by whatever name and from whatever folder.
-    pub path: String,
+    /// By what a mark names it: where its name leads from the root, through links, so that it is the same journal by whatever name and from
+    /// whatever folder; and where it is of one of several hosts, what names the journals of all of them.
+    pub name: String,
 }
 
 impl<'a> Newer<'a> {
@@ -72,27 +78,30 @@ impl<'a> Newer<'a> {
 pub(crate) fn newer_locked<'a>(
     rt: &'a HostRuntime,
     asked: &CarryJob<'a>,
+    part: Option<Part>,
     seasons: &Seasons<'a>,
     older: &Older<'a>,
 ) -> Result<Newer<'a>, Refusal<'a>> {
     let more = [&seasons.to.set, &seasons.to.limits, &older.journal];
-    newer_beside(rt, asked, seasons, &[], &more)
+    newer_beside(rt, asked, part, seasons, &[], &more)
 }
 
 /// The same beside several older journals.
 pub(crate) fn newer_among<'a>(
     rt: &'a HostRuntime,
     asked: &CarryJob<'a>,
+    part: Option<Part>,
     seasons: &Seasons<'a>,
     olders: &[Input<'a>],
 ) -> Result<Newer<'a>, Refusal<'a>> {
     let more = [&seasons.to.set, &seasons.to.limits];
-    newer_beside(rt, asked, seasons, olders, &more)
+    newer_beside(rt, asked, part, seasons, olders, &more)
 }
 
 fn newer_beside<'a>(
     rt: &'a HostRuntime,
     asked: &CarryJob<'a>,
+    part: Option<Part>,
     seasons: &Seasons<'a>,
     olders: &[Input<'a>],
     more: &[&Input<'a>],
@@ -102,8 +111,8 @@ fn newer_beside<'a>(
     guard.pass_output(rt)?;
     let files = files_taken(rt, &seasons.from, olders, more)?;
     let journal = JournalFile::open(rt, asked.new, files.as_slice())?;
-    let path = match path_of(rt, &journal) {
-        Ok(path) => path,
+    let name = match name_of(rt, &journal, part) {
+        Ok(name) => name,
         Err(refusal) => {
             journal.leave();
             return Err(refusal);
@@ -113,7 +122,7 @@ fn newer_beside<'a>(
         Ok(seal) => Ok(Newer {
             journal,
             seal,
-            path,
+            name,
         }),
         Err(refusal) => {
             journal.leave();
@@ -122,12 +131,18 @@ fn newer_beside<'a>(
     }
 }
 
-fn path_of<'a>(rt: &HostRuntime, journal: &JournalFile<'a>) -> Result<String, Refusal<'a>> {
+/// By what a mark names the new journal.
+fn name_of<'a>(
+    rt: &HostRuntime,
+    journal: &JournalFile<'a>,
+    part: Option<Part>,
+) -> Result<String, Refusal<'a>> {
     let Some(path) = journal.path() else {
         return Err(Refusal::barred(journal.name(), NO_FILE));
     };
-    match format!(in rt.alloc(); "{path}") {
-        Ok(path) => Ok(path),
+    match mark_name(rt.alloc(), path, part) {
+        Ok(Some(name)) => Ok(name),
+        Ok(None) => Err(Refusal::barred(journal.name(), NO_SHARD)),
         Err(_) => Err(Refusal::from(DeskFault::Memory)),
     }
 }

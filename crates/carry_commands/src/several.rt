@@ -8,6 +8,7 @@ ghost use Rattle.seat_seal.specs.Reading.{two_entries};
 ghost use Rattle.seat_seal.specs.Rules.{is_imprint, is_seal, is_sealed};
 ghost use Rattle.seat_seal.specs.declared.seal.SealEntry.TheVariants.{Sealed as IsSealed};
 ghost use Rattle.seat_handing.specs.Judging.{hand_or_finish};
+ghost use Rattle.carry_plans.specs.Carries.{marked_text};
 ghost use Rattle.seat_handing.specs.Marking.{mark_of};
 ghost use Rattle.ssim_flights.specs.Right.{IsOfCentury};
 ghost use Rattle.seat_files.specs.declared.fault.Fault.TheVariants.{Carry as OfCarry};
@@ -20,7 +21,7 @@ use crate::naming::{last_of, name_at};
 use crate::placing::{Newer, newer_among, standing};
 use airline_base::{Items, Memory};
 use carry_joins::{Belongings, JoinFault, JoinedCarriage, desk_carry_joined};
-use carry_plans::{Carriage, CarryAsked, CarryFault};
+use carry_plans::{Carriage, CarryAsked, CarryFault, text_for};
 use command_inputs::{meter_each, meter_inputs};
 use progress_meter::{Lines, Meter};
 use seat_desk::DeskFault;
@@ -218,7 +219,7 @@ fn carried_locked<'a, R: Threads + Sync>(
     requires texts { vec_len olders.old.texts ≡ vec_len olders.old.seals }
     requires journals { vec_len olders.old.journals ≡ vec_len olders.old.seals }
 {
-    let newer = match newer_among(rt, asked, seasons, olders.journals.as_slice()) {
+    let newer = match newer_among(rt, asked, asking.part, seasons, olders.journals.as_slice()) {
         Ok(newer) => newer,
         Err(refusal) => return Err(refusal),
     };
@@ -486,11 +487,12 @@ fn handed<'a>(
     let before = entry_beside(slice_of(&stood), &there);
     let JoinedCarriage { carriage, others } = joined;
     let text = carriage.text.as_slice();
-    let name = newer.path.as_str();
+    let whole = carriage.marked();
+    let name = newer.name.as_str();
     if !all_sealed(others.as_slice())
         || !is_sealed(&carriage.known)
         || !may_be_sealed(&before, &carriage.entry)
-        || !may_be_marked(name, text)
+        || !may_be_marked(name, whole)
     {
         return Err(Refusal::barred(asked.new, TOO_LONG));
     }
@@ -499,6 +501,7 @@ fn handed<'a>(
         asked,
         others.as_slice(),
         name,
+        whole,
         &there,
         slice_of(&stood),
         text,
@@ -506,7 +509,8 @@ fn handed<'a>(
         Ok(hands) => hands,
         Err(refusal) => return Err(refusal),
     };
-    let last = match judged_last(asked, &carriage.known, name, &there, slice_of(&stood), text) {
+    let known = &carriage.known;
+    let last = match judged_last(asked, known, name, whole, &there, slice_of(&stood), text) {
         Ok(last) => last,
         Err(refusal) => return Err(refusal),
     };
@@ -534,6 +538,7 @@ fn judged<'a>(
     asked: &CarryJob<'a>,
     knowns: &[Sealed],
     name: &str,
+    whole: &[u8],
     there: &[u8],
     beside: Option<&[u8]>,
     text: &[u8],
@@ -544,6 +549,7 @@ fn judged<'a>(
         rt.alloc(),
         knowns,
         name,
+        whole,
         Some(there),
         beside,
         text,
@@ -563,11 +569,12 @@ fn judged_last<'a>(
     asked: &CarryJob<'a>,
     known: &Sealed,
     name: &str,
+    whole: &[u8],
     there: &[u8],
     beside: Option<&[u8]>,
     text: &[u8],
 ) -> Result<Option<Hand>, Refusal<'a>> {
-    match may_hand(known, name, Some(there), beside, text, asked.anew) {
+    match may_hand(known, name, whole, Some(there), beside, text, asked.anew) {
         Ok(hand) => Ok(hand),
         Err(refusal) => {
             let older = last_of(asked.journal, asked.others.as_slice());
@@ -613,7 +620,7 @@ fn put_together<'a>(
     requires known { is_sealed carriage.known ≡ true }
     requires others { list_all is_sealed others ≡ true }
     requires rules { IsTrue (is_seal (two_entries before (IsSealed carriage.entry))) }
-    requires fits { is_imprint (mark_of (string_bytes newer.old.path) carriage.text) ≡ true }
+    requires fits { is_imprint (mark_of (string_bytes newer.old.name) (marked_text carriage)) ≡ true }
     requires imprint { carriage.entry.journal.imprint ≡ imprint_of (front_of carriage.text) }
     requires hands { length hands.now ≡ length others }
     requires seals { length hands.now + 1 ≡ vec_len olders.old.seals }
@@ -624,11 +631,12 @@ fn put_together<'a>(
         entry,
         report,
         known,
+        whole,
     } = carriage;
-    let name = newer.path.as_str();
-    let bytes = text.as_slice();
+    let name = newer.name.as_str();
+    let whole = text_for(&text, &whole);
     let texts = olders.texts.as_slice();
-    let marks = match marks_of(rt.alloc(), hands, others.into_vec(), texts, name, bytes) {
+    let marks = match marks_of(rt.alloc(), hands, others.into_vec(), texts, name, whole) {
         Ok(marks) => marks,
         Err(_) => return Err(Refusal::from(DeskFault::Memory)),
     };
@@ -647,7 +655,8 @@ fn put_together<'a>(
         before,
         entry,
         name,
-        bytes,
+        whole,
+        text.as_slice(),
         report.as_slice(),
         seal,
         &mut newer.journal,

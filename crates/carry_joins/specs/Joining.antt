@@ -46,6 +46,7 @@ pub record IsAskedOf (counts : List ℕ) (asked of : CarryAsked) : Type 0 where
   pub displaces_is : of.displaces ≡ asked.displaces
   pub fresh_is : of.fresh_limits ≡ asked.fresh_limits
   pub form_is : of.form ≡ asked.form
+  pub part_is : of.part ≡ asked.part
   pub counts_are : of.counts.now ≡ counts
 
 -- ---- what is made

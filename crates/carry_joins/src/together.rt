@@ -91,6 +91,7 @@ fn made_together(
         fresh_limits: asked.fresh_limits,
         counts: counts.as_slice(),
         form: asked.form,
+        part: asked.part,
     };
     match made_from(alloc, &of, new, olds, core, epoch, known) {
         Ok(carriage) => Ok(JoinedCarriage { carriage, others }),

@@ -2,6 +2,7 @@ mod Choices
 mod OldReads
 mod Makes
 mod Outcomes
+mod OwnParts
 mod Parts
 mod Protections
 mod Apart

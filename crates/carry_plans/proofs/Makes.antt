@@ -1,5 +1,5 @@
 -- What is made of a journal's bytes, and why nothing is.
-use Rattle.std.proofs.Common.{◌≡◌, ◌≢◌, ℕ, false, List, refl, sym, subst}
+use Rattle.std.proofs.Common.{◌≡◌, ◌≢◌, ℕ, false, List, [], length, Option, refl, sym, subst, ap, ◌∙◌}
 use Rattle.ssim_flights.specs.declared.flight.Flight.{Flight as Flown}
 use Rattle.seat_limits.specs.Authorised.{authorised_grid}
 use Rattle.seat_limits.specs.declared.limit_row.LimitRow.{LimitRow}
@@ -13,9 +13,15 @@ use Rattle.seat_seal.specs.declared.beside.Basis.{Basis}
 use Rattle.seat_seal.specs.declared.seal.Sealed.{Sealed as Belonging}
 use Rattle.carry_limits.proofs.Files.{authorised_has_legs}
 use Rattle.carry_limits.specs.Legs.{HasLegsOf}
-use Rattle.carry_plans.specs.Carries.{IsMadeFrom, IsMadeOf, IsPut, IsUnmade}
+use Rattle.seat_journal.specs.Text.{journal_text}
+use Rattle.seat_seal.specs.Closing.{IsClosedEntry}
+use Rattle.seat_seal.specs.Fronts.{front_of}
+use Rattle.seat_seal.specs.Imprints.{imprint_of}
+use Rattle.seat_seal.specs.declared.imprint.Imprint.{Imprint}
+use Rattle.seat_sealing.specs.Steps.{alone_text}
+use Rattle.carry_plans.specs.Carries.{IsMadeFrom, IsMadeOf, IsNextEra, IsPut, IsSealOfWhole, IsUnmade}
 use Rattle.carry_plans.specs.Plans.{IsUnplanned}
-use Rattle.carry_plans.specs.Promises.{IsPromised}
+use Rattle.carry_plans.specs.Parting.{IsPlanFor}
 use Rattle.carry_plans.specs.declared.asked.CarryAsked.{CarryAsked}
 use Rattle.carry_plans.specs.declared.carriage.Carriage.{Carriage}
 use Rattle.carry_plans.specs.declared.fault.CarryFault.{CarryFault}
@@ -49,10 +55,23 @@ module _ (asked : CarryAsked) (news : List Flown) (file : Ladders) (olds : List 
   made_of_it basis known c before replayed from = record { before = before; replayed = replayed; from = from }
 
 pub made_from_it : (asked : CarryAsked) (news : List Flown) (file : Ladders) (basis : Basis) (olds : List Flown) (epoch : ℕ) (known : Belonging) (c : Carriage)
-    (before after : Inventory) (report : List ℕ) → IsPromised asked olds before news file after report → IsPut asked.today basis epoch known after report c
-    → IsMadeFrom asked news file basis olds before epoch known c
-made_from_it asked news file basis olds epoch known c before after report plan put =
-    record { after = after; report = report; promised = plan; put = put }
+    (before after : Inventory) (report : List ℕ) (whole : Option Inventory) → IsPlanFor asked.part asked olds before news file after report whole
+    → IsPut asked.today basis epoch known after report whole c → IsMadeFrom asked news file basis olds before epoch known c
+made_from_it asked news file basis olds epoch known c before after report whole plan put =
+    record { after = after; report = report; whole = whole; planned = plan; put = put }
+
+pub sealed_whole : (today : ℕ) (basis : Basis) (epoch : ℕ) (whole : Inventory) (bytes text : List ℕ) (imprint : Imprint) (lines : ℕ) (entry : Belonging)
+    → bytes ≡ journal_text whole.journal → imprint ≡ imprint_of (front_of bytes) → lines ≡ length whole.journal
+    → IsClosedEntry basis imprint lines [] entry → IsNextEra epoch today entry.era → text ≡ alone_text entry
+    → IsSealOfWhole today basis epoch whole text
+sealed_whole today basis epoch whole bytes text imprint lines entry b i l closed era is = record {
+  entry = entry;
+  closed =
+      subst (λ (x : Imprint). IsClosedEntry basis x (length whole.journal) [] entry) (i ∙ ap (λ (x : List ℕ). imprint_of (front_of x)) b)
+      (subst (λ (n : ℕ). IsClosedEntry basis imprint n [] entry) l closed);
+  era = era;
+  text_is = is;
+}
 
 pub unplanned_memory : (asked : CarryAsked) (olds : List Flown) (before : Inventory) (news : List Flown) (file : Ladders) (f : CarryFault) → f ≡ Memory
     → IsUnplanned asked olds before news file f

@@ -14,6 +14,7 @@ use Rattle.seat_desk.specs.Sealing.{basis_of}
 use Rattle.seat_desk.specs.declared.fault.DeskFault.TheVariants as desk
 use Rattle.seat_desk.specs.declared.inputs.Inputs.{Inputs}
 use Rattle.seat_seal.specs.Closing.{IsClosedEntry}
+use Rattle.seat_sealing.specs.Steps.{alone_text}
 use Rattle.seat_seal.specs.Eras.{IsDateOf}
 use Rattle.seat_seal.specs.Fronts.{front_of}
 use Rattle.seat_seal.specs.Imprints.{imprint_of}
@@ -26,7 +27,7 @@ use Rattle.seat_seal.specs.declared.seal.Sealed.{Sealed as Belonging}
 use Rattle.season_changes.specs.Seasons.{IsRefusedOf, IsTooLargeOf}
 use Rattle.season_changes.specs.declared.fault.SeasonFault.{SeasonFault}
 use Rattle.carry_plans.specs.Plans.{IsUnplanned}
-use Rattle.carry_plans.specs.Promises.{IsPromised}
+use Rattle.carry_plans.specs.Parting.{IsPlanFor}
 use Rattle.carry_plans.specs.declared.asked.CarryAsked.{CarryAsked}
 use Rattle.carry_plans.specs.declared.carriage.Carriage.{Carriage}
 use Rattle.carry_plans.specs.declared.reading.OldRead.{OldRead}
@@ -47,13 +48,38 @@ pub record IsNextEra (epoch today : ℕ) (new : Era) : Type 0 where
   pub today_is : new.today ≡ Some date
   pub carried_is : new.carried ≡ None
 
+-- the seal of the journal that all hosts would have together: on this basis, a closed one without runs, of the era behind this epoch. It names the season,
+-- so what two seasons make of one text is two
+pub record IsSealOfWhole (today : ℕ) (basis : Basis) (epoch : ℕ) (whole : Inventory) (text : List ℕ) : Type 0 where
+  pub entry : Belonging
+  pub closed : IsClosedEntry basis (imprint_of (front_of (journal_text whole.journal))) (length whole.journal) [] entry
+  pub era : IsNextEra epoch today entry.era
+  pub text_is : text ≡ alone_text entry
+
+-- where there is one
+abbrev pub AreSealed : ℕ → Basis → ℕ → Option Inventory → Option (List ℕ) → Type 0
+AreSealed today basis epoch None None = Unit {0}
+AreSealed today basis epoch None (Some text) = ⊥
+AreSealed today basis epoch (Some whole) None = ⊥
+AreSealed today basis epoch (Some whole) (Some text) = IsSealOfWhole today basis epoch whole text
+
+-- of which the mark in the older journal's seal is: of the new journal's own text, or of the seal of that of all hosts together
+abbrev pub text_for : List ℕ → Option (List ℕ) → List ℕ
+text_for own None = own
+text_for own (Some whole) = whole
+
+abbrev pub marked_text : Carriage → List ℕ
+marked_text c = text_for c.text c.whole
+
 -- the text is that of the inventory's journal, and the entry is its own on this basis, a closed one without runs, of the era behind this epoch
-pub record IsPut (today : ℕ) (basis : Basis) (epoch : ℕ) (known : Belonging) (after : Inventory) (report : List ℕ) (c : Carriage) : Type 0 where
+pub record IsPut (today : ℕ) (basis : Basis) (epoch : ℕ) (known : Belonging) (after : Inventory) (report : List ℕ)
+    (whole : Option Inventory) (c : Carriage) : Type 0 where
   pub text_is : c.text ≡ journal_text after.journal
   pub entry : IsClosedEntry basis (imprint_of (front_of c.text)) (length after.journal) [] c.entry
   pub era : IsNextEra epoch today c.entry.era
   pub report_is : c.report ≡ report
   pub known_is : c.known ≡ known
+  pub whole_is : AreSealed today basis epoch whole c.whole
 
 -- ---- what is made
 
@@ -62,8 +88,9 @@ pub record IsMadeFrom (asked : CarryAsked) (news : List Flown) (file : Ladders) 
     (epoch : ℕ) (known : Belonging) (c : Carriage) : Type 0 where
   pub after : Inventory
   pub report : List ℕ
-  pub promised : IsPromised asked olds before news file after report
-  pub put : IsPut asked.today basis epoch known after report c
+  pub whole : Option Inventory
+  pub planned : IsPlanFor asked.part asked olds before news file after report whole
+  pub put : IsPut asked.today basis epoch known after report whole c
 
 -- of a journal that is a legal history over the old limits
 pub record IsMadeOf (asked : CarryAsked) (news : List Flown) (file : Ladders) (basis : Basis) (olds : List Flown) (grid : Ladders)

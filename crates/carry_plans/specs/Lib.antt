@@ -1,4 +1,5 @@
 pub mod Carries
 pub mod Plans
+pub mod Parting
 pub mod Promises
 pub mod Failing

@@ -1,5 +1,6 @@
 //! What is asked of a carry.
 use airline_base::{Day, Locator};
+use carry_parts::Part;
 use seat_tables::Form;
 
 /// How live bookings are carried to a new season.
@@ -19,4 +20,6 @@ pub struct CarryAsked<'a> {
     pub counts: &'a [u32],
     /// The report is a table in this form, a row for each live booking; else it is a line for each, and one of sums.
     pub form: Option<Form>,
+    /// Of which of several hosts the new journal is; `None` where one host has all flights.
+    pub part: Option<Part>,
 }

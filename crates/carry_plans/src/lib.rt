@@ -7,12 +7,13 @@ mod carriage;
 mod choosing;
 mod fault;
 mod making;
+mod parting;
 mod planning;
 mod protecting;
 mod reading;
 
 pub use asked::CarryAsked;
-pub use carriage::Carriage;
+pub use carriage::{Carriage, text_for};
 pub use fault::CarryFault;
 pub use making::made_from;
 pub use reading::desk_carry;

@@ -6,21 +6,23 @@ ghost use Rattle.seat_desk.specs.AuditDesk.{most_journal_bytes, most_lines};
 ghost use Rattle.seat_desk.specs.Loading.{IsGridOf};
 ghost use Rattle.seat_seal.specs.Fronts.{front_of};
 ghost use Rattle.seat_seal.specs.Imprints.{imprint_of};
-ghost use Rattle.carry_plans.specs.Carries.{IsMadeFrom, IsMadeOf, IsNextEra, IsPut, IsUnmade, next_epoch};
+ghost use Rattle.carry_plans.specs.Carries.{IsMadeFrom, IsMadeOf, IsNextEra, AreSealed, IsPut, IsSealOfWhole, IsUnmade, next_epoch};
 ghost use Rattle.carry_plans.specs.Plans.{IsUnplanned};
 
 use crate::asked::CarryAsked;
 use crate::carriage::Carriage;
 use crate::fault::{CarryFault, of_old};
 use crate::planning::{Planned, plan};
-use airline_base::{Day, Items};
+use airline_base::{Day, Items, Memory};
 use seat_core::Core;
 use seat_desk::{Based, Loaded, replayed_in_parts};
 use seat_nesting::Grid;
-use seat_seal::{Basis, Date, Era, Runs, Sealed, closed_entry, front_of, imprint_of};
+use seat_seal::{
+    Basis, Date, Era, Runs, Sealed, closed_entry, front_of, imprint_of, one_seal_text,
+};
 use seat_sealing::journal_bytes;
 use ssim_flights::Flights;
-use std::alloc::Global;
+use std::alloc::{AllocError, Global};
 use std::thread::Threads;
 
 /// What carries the live bookings of a journal with these bytes over the old season to the new one, if they are a legal history over its limits.
@@ -103,10 +105,17 @@ fn put(
     known: Sealed,
 ) -> Result<Carriage, CarryFault>
     ensures imprint { IfOk result (λ c. c.entry.journal.imprint ≡ imprint_of (front_of c.text)) }
-    ensures put { IfOk result (IsPut today basis.now epoch known planned.after planned.report) }
+    ensures put { IfOk result (IsPut today basis.now epoch known planned.after planned.report planned.whole) }
     ensures memory { IfErr result (λ f. f ≡ CarryFault.Memory) }
 {
-    let Planned { after, report } = planned;
+    let Planned {
+        after,
+        report,
+        whole,
+    } = planned;
+    let Ok(whole) = seal_of_whole(alloc, today, basis, whole, epoch) else {
+        return Err(CarryFault::Memory);
+    };
     let lines = after.journal().len() as u32;
     let Ok(text) = journal_bytes(alloc, after.journal()) else {
         return Err(CarryFault::Memory);
@@ -118,7 +127,58 @@ fn put(
         entry: closed_entry(basis, era, imprint, lines, Runs::new()),
         report,
         known,
+        whole,
     })
+}
+
+/// The seal of the journal that all hosts would have together, where there is one: it names the season too.
+fn seal_of_whole(
+    alloc: Global,
+    today: Day,
+    basis: &Basis,
+    whole: Option<Core>,
+    epoch: u32,
+) -> Result<Option<Items<u8>>, Memory>
+    ensures { IfOk result (AreSealed today basis.now epoch whole) }
+{
+    let Some(whole) = whole else {
+        return Ok(None);
+    };
+    match sealed_whole(alloc, today, basis, &whole, epoch) {
+        Ok(text) => Ok(Some(text)),
+        Err(_) => Err(Memory),
+    }
+}
+
+/// The text of its seal.
+#[tactic(auto, using(crate::proofs::Makes::sealed_whole))]
+fn sealed_whole(
+    alloc: Global,
+    today: Day,
+    basis: &Basis,
+    whole: &Core,
+    epoch: u32,
+) -> Result<Items<u8>, Memory>
+    ensures { IfOk result (IsSealOfWhole today basis.now epoch whole.now) }
+{
+    let lines = whole.journal().len() as u32;
+    let Ok(text) = journal_bytes(alloc, whole.journal()) else {
+        return Err(Memory);
+    };
+    let imprint = imprint_of(front_of(&text));
+    let entry = closed_entry(basis, next_era(epoch, today), imprint, lines, Runs::new());
+    match copied(alloc, one_seal_text(&entry).as_slice()) {
+        Ok(text) => Ok(text),
+        Err(_) => Err(Memory),
+    }
+}
+
+fn copied(alloc: Global, text: &[u8]) -> Result<Items<u8>, AllocError>
+    ensures { IfOk result (λ items. items ≡ text.now) }
+{
+    let mut bytes = Vec::new(alloc);
+    bytes.extend_from_slice(text)?;
+    Ok(Items::from_vec(bytes))
 }
 
 /// The era behind one of this epoch, which begins on a day.

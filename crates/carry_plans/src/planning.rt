@@ -13,11 +13,13 @@ ghost use Rattle.seat_desk.specs.FlightsDesk.{IsText};
 ghost use Rattle.seat_rules.specs.Inventory.{IsReplayed};
 ghost use Rattle.seat_rules.specs.Journal.{FitsChange, IsLegal};
 ghost use Rattle.carry_plans.specs.Plans.{AreCourses, AreFollowed, AreParts, HasRoomIf, IsOver, IsReportIn, IsReportOf, IsTooLong, IsUnplanned, marks_for};
+ghost use Rattle.carry_plans.specs.Parting.{IsPlanFor, IsWhole};
 ghost use Rattle.carry_plans.specs.Promises.{IsPromised};
 
 use crate::asked::CarryAsked;
 use crate::choosing::{Chosen, choose};
 use crate::fault::CarryFault;
+use crate::parting::part_of;
 use crate::protecting::{courses_of, pass_twice, pass_unsold};
 use airline_base::{Day, Items};
 use carry_limits::{ByFlight, Over, Seasons, by_flight, changes_for, overs, put_overs};
@@ -44,6 +46,8 @@ const MOST_LINES: u32 = 999_999;
 pub(crate) struct Planned {
     pub after: Core,
     pub report: Items<u8>,
+    /// The inventory that all hosts would have together, where this is the part of one of several.
+    pub whole: Option<Core>,
 }
 
 /// The live bookings that are asked for, and the same by their new flights.
@@ -53,8 +57,8 @@ pub(crate) struct Parts {
     pub by: ByFlight,
 }
 
-/// The new inventory of the live bookings, over the file's limits of the new flights, and the report; or why there is none.
-#[tactic(auto, using(crate::proofs::Parts::of_memory))]
+/// The new inventory of the live bookings, over the file's limits of the new flights, and the report, or a host's part of them; or why there is none.
+#[tactic(auto, using(crate::proofs::Parts::of_memory, crate::proofs::OwnParts::plan_for_all, crate::proofs::OwnParts::plan_for_part))]
 pub(crate) fn plan(
     alloc: Global,
     asked: &CarryAsked<'_>,
@@ -67,7 +71,7 @@ pub(crate) fn plan(
     requires grid { IsGridOf olds.now before.now.grid }
     requires file { HasLegsOf file.now news.now }
     requires ladders { IsGridOf news.now file.now }
-    ensures promised { IfOk result (λ p. IsPromised asked.now olds.now before.now news.now file.now p.after p.report) }
+    ensures planned { IfOk result (λ p. IsPlanFor asked.now.part asked.now olds.now before.now news.now file.now p.after p.report p.whole) }
     ensures fault { IfErr result (IsUnplanned asked.now olds.now before.now news.now file.now) }
 {
     let old = match served(alloc, olds) {
@@ -87,10 +91,27 @@ pub(crate) fn plan(
         Ok(parts) => parts,
         Err(fault) => return Err(fault),
     };
-    match plan_of(
+    let (whole, report) = match plan_of(
         alloc, asked, rows, olds, &old, before, news, &new, file, &parts,
     ) {
-        Ok(planned) => Ok(planned),
+        Ok(planned) => planned,
+        Err(fault) => return Err(fault),
+    };
+    let Some(part) = asked.part else {
+        return Ok(Planned {
+            after: whole,
+            report,
+            whole: None,
+        });
+    };
+    match part_of(
+        alloc, part, asked, rows, olds, &old, before, news, &new, file, &parts,
+    ) {
+        Ok((after, report)) => Ok(Planned {
+            after,
+            report,
+            whole: Some(whole),
+        }),
         Err(fault) => Err(fault),
     }
 }
@@ -178,7 +199,7 @@ fn plan_of(
     new: &Served<'_>,
     file: &Grid,
     parts: &Parts,
-) -> Result<Planned, CarryFault>
+) -> Result<(Core, Items<u8>), CarryFault>
     requires file { HasLegsOf file.now news.now }
     requires ladders { IsGridOf news.now file.now }
     requires legal { IsLegal before.now.grid before.now.journal }
@@ -188,7 +209,9 @@ fn plan_of(
     requires followed { AreFollowed asked.now courses.now olds.now before.now news.now file.now parts.now.chosen.live.items parts.now.by }
     requires owned { All (IsOwned file.now) parts.now.chosen.kept.items }
     requires room { HasRoomIf asked.now.displaces news.now file.now parts.now.by }
-    ensures promised { IfOk result (λ p. IsPromised asked.now olds.now before.now news.now file.now p.after p.report) }
+    ensures promised { IfOk result (λ p. IsPromised asked.now olds.now before.now news.now file.now p.0 p.1) }
+    ensures whole { IfOk result (λ p. IsWhole asked.now olds.now before.now news.now file.now parts.now.chosen.kept.items parts.now.by p.0) }
+    ensures few { OnOk result (length parts.now.chosen.kept.items ≤ 999999) }
     ensures fault { IfErr result (IsUnplanned asked.now olds.now before.now news.now file.now) }
 {
     let seasons = Seasons {
@@ -226,7 +249,7 @@ fn plan_of(
         ahead,
         &after,
     ) {
-        Ok(report) => Ok(Planned { after, report }),
+        Ok(report) => Ok((after, report)),
         Err(fault) => Err(fault),
     }
 }
@@ -277,7 +300,7 @@ fn overs_text(alloc: Global, all: &[Over]) -> Result<Items<u8>, AllocError>
 }
 
 /// What is to be closed again.
-fn marks_for(
+pub(crate) fn marks_for(
     alloc: Global,
     fresh: bool,
     olds: &Flights,
@@ -301,7 +324,7 @@ fn marks_for(
 }
 
 /// The inventory over the file's limits in which limits are changed, live bookings are asked for anew, and classes are closed again.
-fn asked_anew(
+pub(crate) fn asked_anew(
     alloc: Global,
     file: &Grid,
     rows: &[Change],
@@ -328,7 +351,7 @@ fn asked_anew(
 
 /// The report.
 #[tactic(auto, using(crate::proofs::Parts::report_in))]
-fn reported(
+pub(crate) fn reported(
     alloc: Global,
     form: Option<Form>,
     counts: &[u32],

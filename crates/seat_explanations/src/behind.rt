@@ -65,6 +65,9 @@ seats may be sold from it. Name a file that is not there, or an empty one.
 --shards of audit takes journals as they stand: it is beside none of --after, --behind, --today, --refused, --sealed and --open.
 Of loads and waiting: it needs a JOURNAL and is not beside --open, and more than one JOURNAL needs it.
 Of route: it is no number of 1 to 999, in at most three digits.
+#E2|shard|
+--shard of carry is not H/M, as 2/4: shard H of M hosts, each in at most three digits, M of 1 to 999 and H of 1 to M.
+Or NEW does not end in .H, as new.2 of shard 2: the names of all M differ in that alone. Nothing was written.
 #E2|today|
 --today is no day of the years 2000 to 2099, as 2024-06-01, or it is missing:
 audit needs it where scripts are named, and serve where the seal beside JOURNAL has no day.

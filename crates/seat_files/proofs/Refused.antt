@@ -43,6 +43,7 @@ word_of_list words.BadJournal of_file = refl
 word_of_list words.BadRefused of_file = absurd (false≢true of_file)
 word_of_list words.BadBy of_file = absurd (false≢true of_file)
 word_of_list words.BadShards of_file = absurd (false≢true of_file)
+word_of_list words.BadShard of_file = absurd (false≢true of_file)
 word_of_list words.BadForm of_file = absurd (false≢true of_file)
 word_of_list words.LongPage of_file = absurd (false≢true of_file)
 word_of_list words.BadWords of_file = absurd (false≢true of_file)

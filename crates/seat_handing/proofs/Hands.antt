@@ -17,7 +17,7 @@ pub read_in : (text : List ℕ) (read : Option Seal) → IfSome read (λ seal. I
 read_in text None found only = λ seal is same. none_some seal (only seal is same)
 read_in text (Some seal) found only = found
 
-pub hand_is : (carried : Option Imprint) (name : List ℕ) (there beside : Option (List ℕ)) (seal : Option Seal) (text : List ℕ) (anew : Bool)
-    (answer : Result (Option Hand) HandRefusal) → IsSealIn beside seal → answer ≡ hand_for carried name there seal text anew
-    → IsHand carried name there beside text anew answer
-hand_is carried name there beside seal text anew answer is_in is = record { seal = seal; is_in = is_in; answer_is = is }
+pub hand_is : (carried : Option Imprint) (name whole : List ℕ) (there beside : Option (List ℕ)) (seal : Option Seal) (text : List ℕ) (anew : Bool)
+    (answer : Result (Option Hand) HandRefusal) → IsSealIn beside seal → answer ≡ hand_for carried name whole there seal text anew
+    → IsHand carried name whole there beside text anew answer
+hand_is carried name whole there beside seal text anew answer is_in is = record { seal = seal; is_in = is_in; answer_is = is }

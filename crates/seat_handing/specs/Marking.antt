@@ -10,7 +10,8 @@ use Rattle.seat_seal.specs.declared.seal.Sealed.{Sealed as Belonging}
 use Rattle.seat_seal.specs.declared.seal.SealEntry.TheVariants.{Sealed}
 use Rattle.seat_sealing.specs.Steps.{alone_text}
 
--- what a mark has of the newer journal: the imprint of its name, a line of its own, and its text. So the same text under another name is another journal
+-- what a mark has of the newer journal: the imprint of its name, a line of its own, and its text. So the same text under another name is another journal.
+-- Where several newer journals each take a part, the name is one for all of them and the text that of all: so each part has the same mark
 abbrev pub mark_of : List ℕ → List ℕ → Imprint
 mark_of name text = imprint_of (name ++ newline ∷ text)
 

@@ -13,7 +13,7 @@ use seat_seal::{Imprint, Seal, SealEntry, Sealed, front_of, imprint_of, read_sea
 pub enum Hand {
     /// The bookings were not carried yet: the older journal is marked.
     Mark,
-    /// They were carried to this very journal under this very name, which is to be finished.
+    /// They were carried to this very journal under this very name, or to all the parts of which it is one: it is to be finished.
     Finish,
     /// They were carried to another one, which doesn't stand there, and this one is to take its place.
     Anew,
@@ -28,24 +28,30 @@ pub enum HandRefusal {
     New,
 }
 
-/// What is done where a journal of this entry is carried to the one of this name and this text, as the bytes `there` stand under that name, and a seal
-/// of the text `beside`: each `None` where no file is. Nothing is to be done, `None`, where the bookings were carried to this very journal, and it
-/// and its seal are whole. Another journal to which they were carried is given up only where `anew` says so. Nothing but these very bytes is ever
-/// replaced.
+/// What is done where the bookings of a journal of this entry are carried to the newer one of this text, as the bytes `there` stand under that one's own
+/// name, and a seal of the text `beside`: each `None` where no file is.
+///
+/// The older journal's mark is of `name` and `whole`. Where the newer journal takes all bookings those are its own name and the same bytes as `text`. Where
+/// it is one of several that each take a part, `name` is one for all of them and `whole` a text that all have, so that each part finds the same mark.
+///
+/// Nothing is to be done, `None`, where the bookings were carried to this very whole, and the newer journal and its seal are whole. Another one to which
+/// they were carried is given up only where `anew` says so, and not where all of it stands under the newer journal's name, which no part of several is.
+/// Nothing but these very bytes is ever replaced.
 #[tactic(auto, using(crate::proofs::Hands::hand_is))]
 pub fn may_hand(
     known: &Sealed,
     name: &str,
+    whole: &[u8],
     there: Option<&[u8]>,
     beside: Option<&[u8]>,
     text: &[u8],
     anew: bool,
 ) -> Result<Option<Hand>, HandRefusal>
-    ensures { IsHand known.now.era.carried name.now (option_map (λ bytes. bytes.now) there.entry) (option_map (λ text. text.now) beside.entry)
+    ensures { IsHand known.now.era.carried name.now whole.now (option_map (λ bytes. bytes.now) there.entry) (option_map (λ text. text.now) beside.entry)
         text.now anew result }
 {
     let seal = seal_in(beside);
-    hand_for(&known.era.carried, name, there, &seal, text, anew)
+    hand_for(&known.era.carried, name, whole, there, &seal, text, anew)
 }
 
 #[tactic(auto, using(crate::proofs::Hands::read_in))]
@@ -61,15 +67,16 @@ pub(crate) fn seal_in(text: Option<&[u8]>) -> Option<Seal>
 pub(crate) fn hand_for(
     carried: &Option<Imprint>,
     name: &str,
+    whole: &[u8],
     there: Option<&[u8]>,
     seal: &Option<Seal>,
     text: &[u8],
     anew: bool,
 ) -> Result<Option<Hand>, HandRefusal>
-    ensures { result ≡ hand_for carried.now name.now (option_map (λ bytes. bytes.now) there.entry) seal.now text.now anew }
+    ensures { result ≡ hand_for carried.now name.now whole.now (option_map (λ bytes. bytes.now) there.entry) seal.now text.now anew }
 {
     match carried {
-        Some(mark) => hand_behind(mark, name, there, seal, text, anew),
+        Some(mark) => hand_behind(mark, name, whole, there, seal, text, anew),
         None => put_as(Some(Hand::Mark), there, text),
     }
 }
@@ -78,14 +85,15 @@ pub(crate) fn hand_for(
 fn hand_behind(
     mark: &Imprint,
     name: &str,
+    whole: &[u8],
     there: Option<&[u8]>,
     seal: &Option<Seal>,
     text: &[u8],
     anew: bool,
 ) -> Result<Option<Hand>, HandRefusal>
-    ensures { result ≡ hand_for (Some mark.now) name.now (option_map (λ bytes. bytes.now) there.entry) seal.now text.now anew }
+    ensures { result ≡ hand_for (Some mark.now) name.now whole.now (option_map (λ bytes. bytes.now) there.entry) seal.now text.now anew }
 {
-    if is_mark_of(mark, name, text) {
+    if is_mark_of(mark, name, whole) {
         return put_as(finish_for(there, seal, text), there, text);
     }
     if !anew || stands(mark, name, there) {
@@ -162,7 +170,7 @@ fn may_be_put(there: Option<&[u8]>, text: &[u8]) -> bool
     }
 }
 
-/// Whether the journal that a mark names stands there, under this name.
+/// Whether the journal that a mark names by itself stands there, under this name.
 fn stands(mark: &Imprint, name: &str, there: Option<&[u8]>) -> bool
     ensures { result ≡ stands mark.now name.now (option_map (λ bytes. bytes.now) there.entry) }
 {
@@ -172,14 +180,14 @@ fn stands(mark: &Imprint, name: &str, there: Option<&[u8]>) -> bool
     }
 }
 
-/// Whether the mark is that of the journal of this name and this text.
-fn is_mark_of(mark: &Imprint, name: &str, text: &[u8]) -> bool
-    ensures { result ≡ is_mark_of mark.now name.now text.now }
+/// Whether the mark is that of this name and this whole text.
+fn is_mark_of(mark: &Imprint, name: &str, whole: &[u8]) -> bool
+    ensures { result ≡ is_mark_of mark.now name.now whole.now }
 {
-    if !may_be_marked(name, text) {
+    if !may_be_marked(name, whole) {
         return false;
     }
-    same_imprint(mark, &mark_of(name, text))
+    same_imprint(mark, &mark_of(name, whole))
 }
 
 fn same_imprint(one: &Imprint, other: &Imprint) -> bool

@@ -38,10 +38,14 @@ pub enum HandFault {
     Unsaid,
 }
 
-/// Hands the bookings of the journal of this entry, whose seal has the text `before`, over to the one with this name, text and entry, under whose name
+/// Hands the bookings of the journal of this entry, whose seal has the text `before`, over to the one with this text and entry, under whose name
 /// stands the journal of the `older` entry. First the mark goes into the older journal's seal, on the disk, also where it stands there already:
 /// a crash may take what was never synced. Then a seal that names both what stood there and the newer journal, the newer journal, and its seal alone; and
 /// last what is said of it. Nothing is kept of any file.
+///
+/// The mark is of `name` and `whole`: where the newer journal takes all bookings, of its own name and the same bytes as `text`; where it is one of several
+/// that each take a part, of a name for all of them and of a text that all have, as the seal of the journal that they would be together. What is put is
+/// `text`.
 ///
 /// Where a file fails ahead of the newer journal's name the mark is taken back, unless another one stood there before.
 /// At no moment does a crash leave the newer journal beside a seal of the older one without the mark, unless it stood there before.
@@ -52,6 +56,7 @@ pub fn hand_over<S: Replaced, J: Replaced, K: Replaced, W: NotedWrite>(
     older: SealEntry,
     newer: Sealed,
     name: &str,
+    whole: &[u8],
     text: &[u8],
     report: &[u8],
     seal: &mut S,
@@ -61,34 +66,34 @@ pub fn hand_over<S: Replaced, J: Replaced, K: Replaced, W: NotedWrite>(
 ) -> Result<(), HandFault>
     requires known { is_sealed known ≡ true }
     requires rules { IsTrue (is_seal (two_entries older (IsSealed newer))) }
-    requires fits { is_imprint (mark_of name.now text.now) ≡ true }
+    requires fits { is_imprint (mark_of name.now whole.now) ≡ true }
     requires imprint { newer.journal.imprint ≡ imprint_of (front_of text.now) }
     ensures ok { OnOk result (AreHandedOver
-        (AreHanded S.failure_count S.named S.may_leave (mark_text known (mark_of name.now text.now)) text.now (alone_text newer)
+        (AreHanded S.failure_count S.named S.may_leave (mark_text known (mark_of name.now whole.now)) text.now (alone_text newer)
         seal.old seal.new (J.named journal.old) (J.named journal.new) (K.named new_seal.old) (K.named new_seal.new)
         (J.may_leave journal.new) (K.may_leave new_seal.new))
         report.now (W.contents out.old) (W.contents out.new)) }
     // Whatever a crash leaves: both are never sold from.
-    ensures never { NeverBoth (mark_of name.now text.now) (J.may_leave journal.old) (J.may_leave journal.new) (S.may_leave seal.new) }
-    ensures order { InHandOrder (mark_text known (mark_of name.now text.now)) (put_back hand before.now) (both_text older newer) text.now
+    ensures never { NeverBoth (mark_of name.now whole.now) (J.may_leave journal.old) (J.may_leave journal.new) (S.may_leave seal.new) }
+    ensures order { InHandOrder (mark_text known (mark_of name.now whole.now)) (put_back hand before.now) (both_text older newer) text.now
         (alone_text newer) (S.may_leave seal.old) (J.may_leave journal.old) (K.may_leave new_seal.old)
         (S.may_leave seal.new) (J.may_leave journal.new) (K.may_leave new_seal.new) }
     // The seal with the mark has the older journal's entry.
-    ensures names { Names (mark_text known (mark_of name.now text.now)) known.journal.imprint }
+    ensures names { Names (mark_text known (mark_of name.now whole.now)) known.journal.imprint }
     ensures each { (begun : List ℕ) → known.journal.state ≡ Open → known.journal.imprint ≡ imprint_of begun
-        → NamesEach (mark_text known (mark_of name.now text.now)) begun }
+        → NamesEach (mark_text known (mark_of name.now whole.now)) begun }
     // The newer journal's seal has its entry.
     ensures sealed { OnOk result (NoneDenied (J.may_leave journal.new) (K.may_leave new_seal.new)) }
     ensures taken { IfErr result (λ f. f ≡ HandFault.TakenBack
         → IsTakenBack S.failure_count S.named S.may_leave J.failure_count J.named J.may_leave K.failure_count K.named K.may_leave
-        (mark_text known (mark_of name.now text.now)) (put_back hand before.now) (both_text older newer)
+        (mark_text known (mark_of name.now whole.now)) (put_back hand before.now) (both_text older newer)
         seal.old seal.new journal.old journal.new new_seal.old new_seal.new) }
     ensures unfinished { IfErr result (λ f. f ≡ HandFault.Unfinished
         → IsUnfinished S.failure_count S.named S.may_leave J.failure_count J.named J.may_leave K.failure_count K.named K.may_leave
-        (mark_text known (mark_of name.now text.now)) (put_back hand before.now) (both_text older newer) text.now (alone_text newer)
+        (mark_text known (mark_of name.now whole.now)) (put_back hand before.now) (both_text older newer) text.now (alone_text newer)
         seal.old seal.new journal.old journal.new new_seal.old new_seal.new) }
     ensures unsaid { IfErr result (λ f. f ≡ HandFault.Unsaid → IsUnsaid
-        (AreHanded S.failure_count S.named S.may_leave (mark_text known (mark_of name.now text.now)) text.now (alone_text newer)
+        (AreHanded S.failure_count S.named S.may_leave (mark_text known (mark_of name.now whole.now)) text.now (alone_text newer)
         seal.old seal.new (J.named journal.old) (J.named journal.new) (K.named new_seal.old) (K.named new_seal.new)
         (J.may_leave journal.new) (K.may_leave new_seal.new))
         W.failure_count W.contents report.now out.old out.new) }
@@ -106,7 +111,7 @@ pub fn hand_over<S: Replaced, J: Replaced, K: Replaced, W: NotedWrite>(
     ensures told { (out.new ≡ out.old)
         ⊎ (AllSynced (S.synced seal.new) × AreSynced (J.synced journal.new) (K.synced new_seal.new)) }
 {
-    let mark = text_of_mark(known, name, text);
+    let mark = text_of_mark(known, name, whole);
     let texts = seal_texts(older, newer);
     hand_in_order(
         hand,
@@ -187,18 +192,18 @@ fn hand_in_order<S: Replaced, J: Replaced, K: Replaced, W: NotedWrite>(
     }
 }
 
-/// The text of the older journal's seal with the mark.
+/// The text of the older journal's seal with the mark of this name and this whole text.
 #[tactic(auto, using(crate::proofs::Marks::says_carried, crate::proofs::Marks::names, crate::proofs::Marks::names_each))]
-pub(crate) fn text_of_mark(known: Sealed, name: &str, text: &[u8]) -> SealText
+pub(crate) fn text_of_mark(known: Sealed, name: &str, whole: &[u8]) -> SealText
     requires known { is_sealed known ≡ true }
-    requires fits { is_imprint (mark_of name.now text.now) ≡ true }
-    ensures text { result.items ≡ mark_text known (mark_of name.now text.now) }
-    ensures says { SaysCarried (mark_of name.now text.now) (mark_text known (mark_of name.now text.now)) }
-    ensures names { Names (mark_text known (mark_of name.now text.now)) known.journal.imprint }
+    requires fits { is_imprint (mark_of name.now whole.now) ≡ true }
+    ensures text { result.items ≡ mark_text known (mark_of name.now whole.now) }
+    ensures says { SaysCarried (mark_of name.now whole.now) (mark_text known (mark_of name.now whole.now)) }
+    ensures names { Names (mark_text known (mark_of name.now whole.now)) known.journal.imprint }
     ensures each { (begun : List ℕ) → known.journal.state ≡ Open → known.journal.imprint ≡ imprint_of begun
-        → NamesEach (mark_text known (mark_of name.now text.now)) begun }
+        → NamesEach (mark_text known (mark_of name.now whole.now)) begun }
 {
-    let entry = marked(known, mark_of(name, text));
+    let entry = marked(known, mark_of(name, whole));
     one_seal_text(&entry)
 }
 

@@ -23,26 +23,27 @@ pub enum HandsRefusal {
     Memory,
 }
 
-/// What is done where journals of these entries are carried to the one of this name and this text: of each what [`may_hand`](crate::may_hand) answers, or that
-/// it is finished, where that is nothing and another needs something.
+/// What is done where the bookings of journals of these entries are carried to the newer one of this text: of each what [`may_hand`](crate::may_hand)
+/// answers, or that it is finished, where that is nothing and another needs something. The mark of each is of `name` and `whole`, as there.
 #[tactic(auto, using(crate::proofs::Judged::judged, crate::proofs::Judged::unjudged))]
 pub fn may_hand_each(
     alloc: Global,
     knowns: &[Sealed],
     name: &str,
+    whole: &[u8],
     there: Option<&[u8]>,
     beside: Option<&[u8]>,
     text: &[u8],
     anew: bool,
 ) -> Result<Judgement, HandsRefusal>
-    ensures ok { IfOk result (IsJudged knowns.now name.now (option_map (λ bytes. bytes.now) there.entry)
+    ensures ok { IfOk result (IsJudged knowns.now name.now whole.now (option_map (λ bytes. bytes.now) there.entry)
         (option_map (λ text. text.now) beside.entry) text.now anew) }
-    ensures refused { IfErr result (IsUnjudged knowns.now name.now (option_map (λ bytes. bytes.now) there.entry)
+    ensures refused { IfErr result (IsUnjudged knowns.now name.now whole.now (option_map (λ bytes. bytes.now) there.entry)
         (option_map (λ text. text.now) beside.entry) text.now anew) }
 {
     let seal = seal_in(beside);
     let mut each: Items<Hand> = Items::new(alloc);
-    match judge_all(knowns, name, there, &seal, text, anew, 1, &mut each) {
+    match judge_all(knowns, name, whole, there, &seal, text, anew, 1, &mut each) {
         Ok(are_whole) => Ok(Judgement { each, are_whole }),
         Err(refusal) => Err(refusal),
     }
@@ -53,6 +54,7 @@ pub fn may_hand_each(
 fn judge_all(
     knowns: &[Sealed],
     name: &str,
+    whole: &[u8],
     there: Option<&[u8]>,
     seal: &Option<Seal>,
     text: &[u8],
@@ -60,17 +62,17 @@ fn judge_all(
     place: u32,
     hands: &mut Items<Hand>,
 ) -> Result<bool, HandsRefusal>
-    ensures none { OnOk result (refused_from place (answers_for knowns.now name.now (option_map (λ bytes. bytes.now) there.entry) seal.now text.now anew) ≡ None) }
+    ensures none { OnOk result (refused_from place (answers_for knowns.now name.now whole.now (option_map (λ bytes. bytes.now) there.entry) seal.now text.now anew) ≡ None) }
     ensures hands { OnOk result (hands.new
-        ≡ hands.old ++ hands_in (answers_for knowns.now name.now (option_map (λ bytes. bytes.now) there.entry) seal.now text.now anew)) }
-    ensures whole { IfOk result (λ w. w ≡ are_whole (answers_for knowns.now name.now (option_map (λ bytes. bytes.now) there.entry) seal.now text.now anew)) }
+        ≡ hands.old ++ hands_in (answers_for knowns.now name.now whole.now (option_map (λ bytes. bytes.now) there.entry) seal.now text.now anew)) }
+    ensures nothing { IfOk result (λ w. w ≡ are_whole (answers_for knowns.now name.now whole.now (option_map (λ bytes. bytes.now) there.entry) seal.now text.now anew)) }
     ensures refused { IfErr result
-        (IsRefusedFrom place (answers_for knowns.now name.now (option_map (λ bytes. bytes.now) there.entry) seal.now text.now anew)) }
+        (IsRefusedFrom place (answers_for knowns.now name.now whole.now (option_map (λ bytes. bytes.now) there.entry) seal.now text.now anew)) }
 {
     let Some((known, later)) = knowns.split_first() else {
         return Ok(true);
     };
-    let answer = match hand_for(&known.era.carried, name, there, seal, text, anew) {
+    let answer = match hand_for(&known.era.carried, name, whole, there, seal, text, anew) {
         Ok(answer) => answer,
         Err(refusal) => return Err(HandsRefusal::Refused { place, refusal }),
     };
@@ -80,8 +82,8 @@ fn judge_all(
     if hands.push(hand_or_finish(answer)).is_err() {
         return Err(HandsRefusal::Memory);
     }
-    match judge_all(later, name, there, seal, text, anew, next, hands) {
-        Ok(whole) => Ok(needs_nothing(answer) && whole),
+    match judge_all(later, name, whole, there, seal, text, anew, next, hands) {
+        Ok(rest) => Ok(needs_nothing(answer) && rest),
         Err(refusal) => Err(refusal),
     }
 }

@@ -1,4 +1,4 @@
-//! The mark in a journal's own entry: that its bookings were carried to another journal, of this name and this text.
+//! The mark in a journal's own entry: that its bookings were carried to another journal, of this name and this text, or to several that share both.
 ghost use Rattle.std.specs.Prelude.{◌≡◌, ◌<◌, ◌^◌, List, [], ◌∷◌, ◌++◌, length, true};
 ghost use Rattle.seat_seal.specs.Imprints.{HasTaken};
 ghost use Rattle.seat_seal.specs.Rules.{is_imprint};

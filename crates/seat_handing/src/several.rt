@@ -34,7 +34,8 @@ pub struct OlderMark {
     pub mark: Items<u8>,
 }
 
-/// The mark of the journal of this entry, whose seal has the text `before`, as its bookings are handed over to the one of this name and this text.
+/// The mark of the journal of this entry, whose seal has the text `before`, as its bookings are handed over to the newer journal, or the newer journals, of
+/// this name and this whole text.
 #[tactic(auto, using(crate::proofs::Olders::says_copied))]
 pub fn older_mark(
     alloc: Global,
@@ -42,17 +43,17 @@ pub fn older_mark(
     known: Sealed,
     before: Items<u8>,
     name: &str,
-    text: &[u8],
+    whole: &[u8],
 ) -> Result<OlderMark, Memory>
     requires known { is_sealed known ≡ true }
-    requires fits { is_imprint (mark_of name.now text.now) ≡ true }
+    requires fits { is_imprint (mark_of name.now whole.now) ≡ true }
     ensures hand { IfOk result (λ m. m.hand ≡ hand) }
     ensures before { IfOk result (λ m. m.before ≡ before) }
-    ensures mark { IfOk result (λ m. m.mark ≡ mark_text known (mark_of name.now text.now)) }
-    ensures says { IfOk result (λ m. SaysCarried (mark_of name.now text.now) m.mark) }
-    ensures names { Names (mark_text known (mark_of name.now text.now)) known.journal.imprint }
+    ensures mark { IfOk result (λ m. m.mark ≡ mark_text known (mark_of name.now whole.now)) }
+    ensures says { IfOk result (λ m. SaysCarried (mark_of name.now whole.now) m.mark) }
+    ensures names { Names (mark_text known (mark_of name.now whole.now)) known.journal.imprint }
 {
-    let mark = text_of_mark(known, name, text);
+    let mark = text_of_mark(known, name, whole);
     match copied(alloc, mark.as_slice()) {
         Ok(mark) => Ok(OlderMark { hand, before, mark }),
         Err(_) => Err(Memory),
@@ -68,7 +69,8 @@ fn copied(alloc: Global, text: &[u8]) -> Result<Items<u8>, AllocError>
 }
 
 /// Hands the bookings of several journals over to one: the seals of all but the last get their `marks`, in order, each on the disk, and behind them the
-/// last one's and the newer journal are put as [`hand_over`] puts them, of which all else is said.
+/// last one's and the newer journal are put as [`hand_over`] puts them, of which all else is said. The last one's mark is of `name` and `whole`, as there, and
+/// so are the `marks`. What is put is `text`.
 ///
 /// Where a file fails ahead of the newer journal's name, each mark of a journal that had none is taken back, the last one first; one that can't be, or a
 /// journal that had a mark, leaves those ahead of it marked.
@@ -83,6 +85,7 @@ pub fn hand_over_several<S: Replaced, J: Replaced, K: Replaced, W: NotedWrite>(
     older: SealEntry,
     newer: Sealed,
     name: &str,
+    whole: &[u8],
     text: &[u8],
     report: &[u8],
     seal: &mut S,
@@ -92,36 +95,36 @@ pub fn hand_over_several<S: Replaced, J: Replaced, K: Replaced, W: NotedWrite>(
 ) -> Result<(), HandFault>
     requires known { is_sealed known ≡ true }
     requires rules { IsTrue (is_seal (two_entries older (IsSealed newer))) }
-    requires fits { is_imprint (mark_of name.now text.now) ≡ true }
+    requires fits { is_imprint (mark_of name.now whole.now) ≡ true }
     requires imprint { newer.journal.imprint ≡ imprint_of (front_of text.now) }
     requires as_many { length marks.now ≡ length seals.old }
-    requires say { SayCarried (mark_of name.now text.now) marks.now }
+    requires say { SayCarried (mark_of name.now whole.now) marks.now }
     ensures ok { OnOk result (AreAllHanded S.failure_count S.named S.may_leave marks.now seals.old seals.new (AreHandedOver
-        (AreHanded S.failure_count S.named S.may_leave (mark_text known (mark_of name.now text.now)) text.now (alone_text newer)
+        (AreHanded S.failure_count S.named S.may_leave (mark_text known (mark_of name.now whole.now)) text.now (alone_text newer)
         seal.old seal.new (J.named journal.old) (J.named journal.new) (K.named new_seal.old) (K.named new_seal.new)
         (J.may_leave journal.new) (K.may_leave new_seal.new))
         report.now (W.contents out.old) (W.contents out.new))) }
     // Whatever a crash leaves: the newer journal and any of the older ones are never sold from both.
-    ensures never { NeverBoth (mark_of name.now text.now) (J.may_leave journal.old) (J.may_leave journal.new) (S.may_leave seal.new) }
-    ensures never_any { NeverAny (mark_of name.now text.now) (J.may_leave journal.old) (J.may_leave journal.new) S.may_leave seals.new }
+    ensures never { NeverBoth (mark_of name.now whole.now) (J.may_leave journal.old) (J.may_leave journal.new) (S.may_leave seal.new) }
+    ensures never_any { NeverAny (mark_of name.now whole.now) (J.may_leave journal.old) (J.may_leave journal.new) S.may_leave seals.new }
     ensures sealed { OnOk result (NoneDenied (J.may_leave journal.new) (K.may_leave new_seal.new)) }
     ensures taken { IfErr result (λ f. f ≡ HandFault.TakenBack
         → AreTakenBack S.failure_count S.named S.may_leave marks.now seals.old seals.new
         (AreUntouched seal.old seal.new journal.old journal.new new_seal.old new_seal.new)
         (IsTakenBack S.failure_count S.named S.may_leave J.failure_count J.named J.may_leave K.failure_count K.named K.may_leave
-        (mark_text known (mark_of name.now text.now)) (put_back hand before.now) (both_text older newer)
+        (mark_text known (mark_of name.now whole.now)) (put_back hand before.now) (both_text older newer)
         seal.old seal.new journal.old journal.new new_seal.old new_seal.new)) }
     ensures unfinished { IfErr result (λ f. f ≡ HandFault.Unfinished
         → AreUnfinished S.failure_count S.named S.may_leave marks.now seals.old seals.new
         (AreUntouched seal.old seal.new journal.old journal.new new_seal.old new_seal.new)
         (IsTakenBack S.failure_count S.named S.may_leave J.failure_count J.named J.may_leave K.failure_count K.named K.may_leave
-        (mark_text known (mark_of name.now text.now)) (put_back hand before.now) (both_text older newer)
+        (mark_text known (mark_of name.now whole.now)) (put_back hand before.now) (both_text older newer)
         seal.old seal.new journal.old journal.new new_seal.old new_seal.new)
         (IsUnfinished S.failure_count S.named S.may_leave J.failure_count J.named J.may_leave K.failure_count K.named K.may_leave
-        (mark_text known (mark_of name.now text.now)) (put_back hand before.now) (both_text older newer) text.now (alone_text newer)
+        (mark_text known (mark_of name.now whole.now)) (put_back hand before.now) (both_text older newer) text.now (alone_text newer)
         seal.old seal.new journal.old journal.new new_seal.old new_seal.new)) }
     ensures unsaid { IfErr result (λ f. f ≡ HandFault.Unsaid → AreAllHanded S.failure_count S.named S.may_leave marks.now seals.old seals.new (IsUnsaid
-        (AreHanded S.failure_count S.named S.may_leave (mark_text known (mark_of name.now text.now)) text.now (alone_text newer)
+        (AreHanded S.failure_count S.named S.may_leave (mark_text known (mark_of name.now whole.now)) text.now (alone_text newer)
         seal.old seal.new (J.named journal.old) (J.named journal.new) (K.named new_seal.old) (K.named new_seal.new)
         (J.may_leave journal.new) (K.may_leave new_seal.new))
         W.failure_count W.contents report.now out.old out.new)) }
@@ -146,7 +149,7 @@ pub fn hand_over_several<S: Replaced, J: Replaced, K: Replaced, W: NotedWrite>(
         Err(fault) => return Err(fault),
     }
     let outcome = hand_over(
-        hand, known, before, older, newer, name, text, report, seal, journal, new_seal, out,
+        hand, known, before, older, newer, name, whole, text, report, seal, journal, new_seal, out,
     );
     match outcome {
         Ok(()) => Ok(()),

@@ -107,7 +107,7 @@ compare_line = leaf_line is_complete (built_leaf (with_switches compare_app).top
 carry_line : Yields is_complete (built_leaf (with_switches carry_app).top)
 unfolding carry_app
 carry_line = leaf_line is_complete (built_leaf (with_switches carry_app).top)
-    (set_keeps _ refl refl, (set_keeps _ refl refl, (set_keeps _ refl refl, (set_keeps _ refl refl, (set_keeps _ refl refl, (set_keeps _ refl refl, (flag_keeps _ refl _ refl, (flag_keeps _ refl _ refl, (flag_keeps _ refl _ refl, (flag_keeps _ refl _ refl, (flag_keeps _ refl _ refl, (flag_keeps _ refl _ refl, (set_keeps _ refl refl, (append_keeps _ refl refl, (flag_keeps _ refl _ refl, (flag_keeps _ refl _ refl, (help_keeps _ refl, tt))))))))))))))))) (λ rows h. h)
+    (set_keeps _ refl refl, (set_keeps _ refl refl, (set_keeps _ refl refl, (set_keeps _ refl refl, (set_keeps _ refl refl, (set_keeps _ refl refl, (flag_keeps _ refl _ refl, (flag_keeps _ refl _ refl, (flag_keeps _ refl _ refl, (set_keeps _ refl refl, (flag_keeps _ refl _ refl, (flag_keeps _ refl _ refl, (flag_keeps _ refl _ refl, (set_keeps _ refl refl, (append_keeps _ refl refl, (flag_keeps _ refl _ refl, (flag_keeps _ refl _ refl, (help_keeps _ refl, tt)))))))))))))))))) (λ rows h. h)
 
 changes_line : Yields is_complete (built_leaf (with_switches changes_app).top)
 unfolding changes_app horizon_app

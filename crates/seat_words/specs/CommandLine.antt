@@ -248,7 +248,7 @@ compare_app = with_rule (with_rule (with_rule (new_app (codes "compare"))
     (optional_value (codes "journal"))
 
 unfoldable pub carry_app : App
-carry_app = with_rule (with_rule (with_rule (with_rule (with_rule (with_rule (with_rule (with_rule (with_rule (with_rule (with_rule (with_rule (with_rule (with_rule (new_app (codes "carry"))
+carry_app = with_rule (with_rule (with_rule (with_rule (with_rule (with_rule (with_rule (with_rule (with_rule (with_rule (with_rule (with_rule (with_rule (with_rule (with_rule (new_app (codes "carry"))
     (required_option (codes "from")))
     (required_option (codes "to")))
     (required_option (codes "today")))
@@ -258,6 +258,7 @@ carry_app = with_rule (with_rule (with_rule (with_rule (with_rule (with_rule (wi
     (flag (codes "displace")))
     (flag (codes "fresh-limits")))
     (flag (codes "anew")))
+    (optional (codes "shard")))
     (flag (codes "dry-run")))
     (flag (codes "csv")))
     (flag (codes "json")))

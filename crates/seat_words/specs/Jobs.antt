@@ -204,6 +204,7 @@ IsCarry rows asked = Has rows (codes "from") asked.from.now
     × HasFlag rows (codes "displace") asked.displaces
     × HasFlag rows (codes "fresh-limits") asked.fresh_limits
     × HasFlag rows (codes "anew") asked.anew
+    × MayHave rows (codes "shard") (option_map (λ text. text.now) asked.shard)
     × HasFlag rows (codes "dry-run") asked.dry_run
     × IsShaped rows asked.shape
     × Has rows (codes "carried") asked.journal.now

@@ -1,10 +1,11 @@
--- Words that name a pair of stations, a flight, a line of a journal, how many lines it began with, a number of shards, or a session.
+-- Words that name a pair of stations, a flight, a line of a journal, how many lines it began with, a number of shards, a shard of them, or a session.
 use Rattle.std.specs.Prelude.{◌≡◌, ℕ, ◌≤◌, nat_le, ◌-◌, ◌&&◌, if◌then◌else◌, true, List, [], ◌∷◌, length, take, drop, Option, Some, None}
 use Rattle.std.specs.Char.{is_ascii_digit, is_ascii_uppercase}
 use Rattle.std.specs.List.{list_all}
 use Rattle.std.specs.Str.Parse.{digits_value}
-use Rattle.airline_base.specs.Fields.{◌>>=◌, fixed_at, numeral_at}
+use Rattle.airline_base.specs.Fields.{◌>>=◌, byte_at, fixed_at, numeral_at}
 use Rattle.airline_base.specs.Names.{is_airline, is_station}
+use Rattle.seat_words.specs.declared.names.ShardWord.{ShardWord}
 
 -- two stations, the board point and behind it the off point
 abbrev pub pair_word_in : List ℕ → Option (List ℕ × List ℕ)
@@ -45,6 +46,19 @@ pub record IsShardsWord (word : List ℕ) (n : ℕ) : Type 0 where
   pub short : length word ≤ 3
   pub value : digits_value 10 word ≡ n
   pub least : 1 ≤ n
+
+-- shard h of m, where nothing stands behind them and h is not above m
+abbrev pub shard_among : ℕ → ℕ → List ℕ → Option ShardWord
+shard_among h m [] = if nat_le h m then Some (record { shard = h; shards = m }) else None
+shard_among h m (_ ∷ _) = None
+
+-- H/M: a shard, /, and how many there are, each above 0 in at most three digits
+unfoldable pub shard_in : List ℕ → Option ShardWord
+shard_in word = do
+  shard ← numeral_at 3 word
+  behind ← byte_at 47 shard.1
+  shards ← numeral_at 3 behind
+  shard_among shard.0 shards.0 shards.1
 
 -- the digit of a session, 0 to 8
 abbrev pub session_in : List ℕ → Option ℕ

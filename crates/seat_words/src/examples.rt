@@ -219,6 +219,17 @@ pub fn examples_are_read()
         ∷ (codes "anew", codes "false" ∷ []) ∷ (codes "dry-run", codes "false" ∷ [])
         ∷ (codes "csv", codes "false" ∷ []) ∷ (codes "json", codes "false" ∷ [])
         ∷ (codes "verbose", codes "false" ∷ []) ∷ (codes "quiet", codes "false" ∷ []) ∷ []) }
+    ensures sharded { IsReadTo
+        (codes "seatdesk carry --from examples/summer.toml --to examples/august.toml --today 2024-07-20 --journal august.1 --shard 1/4 journal.txt")
+        (codes "carry")
+        ((codes "from", codes "examples/summer.toml" ∷ []) ∷ (codes "to", codes "examples/august.toml" ∷ [])
+        ∷ (codes "today", codes "2024-07-20" ∷ []) ∷ (codes "journal", codes "august.1" ∷ [])
+        ∷ (codes "shard", codes "1/4" ∷ [])
+        ∷ (codes "carried", codes "journal.txt" ∷ [])
+        ∷ (codes "displace", codes "false" ∷ []) ∷ (codes "fresh-limits", codes "false" ∷ [])
+        ∷ (codes "anew", codes "false" ∷ []) ∷ (codes "dry-run", codes "false" ∷ [])
+        ∷ (codes "csv", codes "false" ∷ []) ∷ (codes "json", codes "false" ∷ [])
+        ∷ (codes "verbose", codes "false" ∷ []) ∷ (codes "quiet", codes "false" ∷ []) ∷ []) }
     ensures trial { IsReadTo
         (codes "seatdesk carry --from examples/summer.toml --to examples/august.toml --today 2024-07-20 --journal august.txt --displace --dry-run journal.txt")
         (codes "carry")

@@ -39,6 +39,8 @@ pub enum WordFault {
     /// Journals of several hosts are audited as they stand: ended, without scripts, older journals and seals. Or the number of shards is
     /// not one of 1 to 999.
     BadShards,
+    /// The shard is not H of M hosts, as `2/4`, 1 ≤ H ≤ M ≤ 999, or the journal that is to be its own does not end in `.H`.
+    BadShard,
     /// More than one form of the answer is asked for.
     BadForm,
     /// The page of the legs that are asked for has more than 30,000,000 bytes.
@@ -73,6 +75,7 @@ impl fmt::Display for WordFault {
             WordFault::BadRefused => "E2 refused",
             WordFault::BadBy => "E2 by",
             WordFault::BadShards => "E2 shards",
+            WordFault::BadShard => "E2 shard",
             WordFault::BadForm => "E2 form",
             WordFault::LongPage => "E2 html",
             WordFault::BadWords => "E2 words",

@@ -65,7 +65,7 @@ pub enum Job<'a> {
     /// `seatdesk compare --from SEASON --to SEASON [JOURNAL]`
     Compare(CompareJob<'a>),
     /// `seatdesk carry --from SEASON --to SEASON --today DATE --journal NEW [--protect FILE] [--order FILE] [--displace] [--fresh-limits]
-    /// [--anew] [--dry-run] [--csv] [--json] JOURNAL [OTHER...]`
+    /// [--anew] [--shard H/M] [--dry-run] [--csv] [--json] JOURNAL [OTHER...]`
     Carry(CarryJob<'a>),
     /// `seatdesk changes` over a horizon `--to WANTED [--flight FLIGHT] [--day DATE] [--pair PAIR] [--open] JOURNAL`
     Changes(ChangesJob<'a>),
@@ -522,6 +522,7 @@ fn carry_job<'a>(alloc: Global, matches: &ArgMatches<'a>) -> Result<Job<'a>, All
         displaces: flag_of(matches, "displace"),
         fresh_limits: flag_of(matches, "fresh-limits"),
         anew: flag_of(matches, "anew"),
+        shard: may_value_of(matches, "shard"),
         dry_run: flag_of(matches, "dry-run"),
         shape: shape_of(matches),
         journal: value_of(matches, "carried"),

@@ -19,7 +19,8 @@ pub use examples::examples_are_read;
 pub use fault::WordFault;
 pub use job::{CommandLine, Job, read_words, words_in_conflict, wrong_value};
 pub use names::{
-    behind_word, flight_word, line_word, locator_word, pair_word, session_word, shards_word,
+    ShardWord, behind_word, flight_word, line_word, locator_word, pair_word, session_word,
+    shard_word, shards_word,
 };
 pub use pipes::pipes_of;
 pub use sessions::{audit_lacks, has_number, session_file, sessions_of, sessions_of_run};

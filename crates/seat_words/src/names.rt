@@ -1,9 +1,9 @@
-//! Words that name a pair of stations, a flight, a locator, a line of a journal, how many lines it began with, a number of shards, or a session.
+//! Words that name a pair of stations, a flight, a locator, a line of a journal, how many lines it began with, a number of shards, a shard of them, or a session.
 ghost use Rattle.std.specs.Prelude.{◌≡◌, ℕ, IfSome, Some, None, if◌then◌else◌};
 ghost use Rattle.airline_base.specs.Names.{is_locator};
-ghost use Rattle.seat_words.specs.NameWords.{IsBehindWord, IsLineWord, IsShardsWord, flight_in, pair_word_in, session_in, suffix_in};
+ghost use Rattle.seat_words.specs.NameWords.{IsBehindWord, IsLineWord, IsShardsWord, flight_in, pair_word_in, session_in, shard_among, shard_in, suffix_in};
 
-use airline_base::fields::{airline_of, are_digits, numeral_of, value_of};
+use airline_base::fields::{airline_of, are_digits, byte_of, numeral_of, value_of};
 use airline_base::{Airline, Locator, Station};
 
 /// The board and the off point that the word names: two stations of three letters A to Z, as `LHRJFK`.
@@ -89,6 +89,43 @@ pub fn shards_word(word: &str) -> Option<u16>
         return None;
     }
     Some(shards as u16)
+}
+
+/// One of several hosts that have different flights.
+#[derive(Clone, Copy)]
+pub struct ShardWord {
+    /// Which of them, counted from 1.
+    pub shard: u16,
+    /// How many there are, at most 999.
+    pub shards: u16,
+}
+
+/// The shard that the word names and how many there are, as `2/4`: each in one to three digits, from 1 on, and the first not above
+/// the second.
+#[tactic(auto, unfolding(crate::specs::NameWords::shard_in))]
+pub fn shard_word(word: &str) -> Option<ShardWord>
+    ensures { result ≡ shard_in word.now }
+{
+    let Some((shard, rest)) = numeral_of(word.as_bytes(), 3) else {
+        return None;
+    };
+    let Some(rest) = byte_of(b'/', rest) else {
+        return None;
+    };
+    let Some((shards, rest)) = numeral_of(rest, 3) else {
+        return None;
+    };
+    shard_among(shard, shards, rest)
+}
+
+/// These two, where nothing stands behind them and the first is not above the second.
+fn shard_among(shard: u16, shards: u16, rest: &[u8]) -> Option<ShardWord>
+    ensures { result ≡ shard_among shard shards rest.now }
+{
+    match rest {
+        [] if shard <= shards => Some(ShardWord { shard, shards }),
+        _ => None,
+    }
 }
 
 /// The session that the word names: one digit, 0 for the manager to 8.

@@ -210,6 +210,8 @@ pub struct CarryJob<'a> {
     pub fresh_limits: bool,
     /// Takes the place of a carry that did not end, and had another result.
     pub anew: bool,
+    /// Of which of several hosts the new journal is, as `H/M`.
+    pub shard: Option<&'a str>,
     /// Writes the report alone.
     pub dry_run: bool,
     /// Of the report.

@@ -19,15 +19,15 @@ use Rattle.desk_calls.specs.Sending.{is_next}
 use Rattle.desk_feed.proofs.Living.{a_feed_is_its_journal}
 use Rattle.desk_feed.specs.Feeding.{behind_asking, behind_feed}
 use Rattle.desk_feed.specs.Laws.{Tested, asking_of}
-use Rattle.shard_feeds.specs.Laws.{AreHosts, HostsAreLegalTogether, IsHost}
+use Rattle.shard_feeds.specs.Laws.{AreHosts, AreTogether, HostsAreLegalTogether, IsHost}
 use Rattle.shard_feeds.specs.Owning.{AreFeeds, GoesTo, IsAskedOf, shard_of_flight}
 
 module _ (shards : ℕ) (flights : List Flown) (grid : Ladders) (cap : ℕ) where
   -- a legal history, short enough, whose lines all go to the shard
-  record IsOwn (shard : ℕ) (journal : List Entry) : Type 0 where
-    legal : IsLegal grid journal
-    few : length journal ≤ cap
-    goes : AllByRecursion (λ (e : Entry). GoesTo shards flights shard e.work) journal
+  pub record IsOwn (shard : ℕ) (journal : List Entry) : Type 0 where
+    pub legal : IsLegal grid journal
+    pub few : length journal ≤ cap
+    pub goes : AllByRecursion (λ (e : Entry). GoesTo shards flights shard e.work) journal
 
   none_own : (shard : ℕ) → IsOwn shard []
   none_own shard = record { legal = legal_nil grid; few = omega arith; goes = tt }
@@ -80,7 +80,8 @@ module _ (shards : ℕ) (flights : List Flown) (grid : Ladders) (cap : ℕ) wher
       let is = a_feed_is_its_journal grid cap [] feed host.cuts host.before host.from journal host.rest host.sent host.lived in
       subst (IsOwn shard) (sym is.0) (feed_own shard [] feed asked (none_own shard))
 
-  abbrev AllOwn : ℕ → List (List Entry) → Type 0
+  -- those of the shards from this one on
+  abbrev pub AllOwn : ℕ → List (List Entry) → Type 0
   AllOwn shard [] = Unit {0}
   AllOwn shard (journal ∷ journals) = IsOwn shard journal × AllOwn (shard + 1) journals
 
@@ -134,20 +135,22 @@ module _ (shards : ℕ) (flights : List Flown) (grid : Ladders) (cap : ℕ) wher
       by true e = absurd (some (none_of (1 + a) flight own h.goes (away (shard_of_flight shards flights flight) e)))
       by false e = none_of (1 + b) flight other k.goes e
 
-  together : (journals : List (List Entry)) → AllOwn 1 journals → AreShards grid cap journals
-  together journals all = record {
+  are_shards : (journals : List (List Entry)) → AllOwn 1 journals → AreShards grid cap journals
+  are_shards journals all = record {
     legal = λ i. (own_at 1 journals i all).legal;
     few = λ i. (own_at 1 journals i all).few;
     apart = record { each = λ a b flight differ some. are_apart a b flight (journal_at journals a) (journal_at journals b) differ (own_at 1 journals a all) (own_at 1 journals b all) some };
   }
 
+  pub together : (journals : List (List Entry)) → AllOwn 1 journals → AreTogether grid cap journals
+  together journals all = record {
+    shards = are_shards journals all;
+    merge = record {
+      legal = λ mix is. (merged_is_legal grid cap journals mix (are_shards journals all) is).0;
+      sums = λ mix is. merged_totals journals mix is;
+    };
+  }
+
 pub hosts_are_together : HostsAreLegalTogether
 hosts_are_together shards flights grid cap feeds journals asked hosts =
-    let shards_are = together shards flights grid cap journals (hosts_own shards flights grid cap 1 feeds journals asked hosts) in
-    record {
-      shards = shards_are;
-      merge = record {
-        legal = λ mix is. (merged_is_legal grid cap journals mix shards_are is).0;
-        sums = λ mix is. merged_totals journals mix is;
-      };
-    }
+    together shards flights grid cap journals (hosts_own shards flights grid cap 1 feeds journals asked hosts)

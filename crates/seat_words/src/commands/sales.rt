@@ -86,6 +86,9 @@ const FRESH_LIMITS_HELP: &str =
 const ANEW_HELP: &str =
     "Takes the place of a carry of JOURNAL that did not end, and had another result";
 
+const SHARD_HELP: &str =
+    "Makes NEW the journal of shard H of M hosts with different flights, by the hash of route; NEW ends in .H then, and the same is sent for each H of 1 to M";
+
 const DRY_RUN_HELP: &str = "Writes the report alone: neither NEW nor the seal of JOURNAL";
 
 const CARRIED_HELP: &str =
@@ -184,6 +187,7 @@ const CARRY: &[Argument] = &[
     Flag("displace", DISPLACE_HELP),
     Flag("fresh-limits", FRESH_LIMITS_HELP),
     Flag("anew", ANEW_HELP),
+    Optional("shard", "H/M", SHARD_HELP),
     Flag("dry-run", DRY_RUN_HELP),
     Flag("csv", CSV_HELP),
     Flag("json", JSON_HELP),
@@ -198,7 +202,7 @@ pub(super) fn carry_command<'a>(alloc: Global) -> Result<Command<'a>, AllocError
         alloc,
         "carry",
         "Carries the live bookings of a journal, or of several, to another season, into a new journal, and reports on each of them",
-        "JOURNAL is sold from no more: its seal says that it was carried, ahead of the first byte of NEW. A carry that was killed between the\ntwo is finished by the same command, given again. Where a leg of the new season has fewer seats than are held no file is written, and\na line of standard output, OVER, says so of each such leg.\n\nExample: seatdesk carry --from examples/summer.toml --to examples/august.toml --today 2024-07-20 --journal august.txt journal.txt\n\nThe report alone, of who would lose seats: seatdesk carry --from examples/summer.toml --to examples/august.toml --today 2024-07-20 --journal august.txt --displace --dry-run journal.txt\n\nOthers go to another flight, and some keep their seats first: seatdesk carry --from examples/summer.toml --to examples/august.toml --today 2024-07-20 --journal august.txt --protect protected.txt --order first.txt --displace journal.txt\n\nJournals of hosts that have different flights, in this order: seatdesk carry --from examples/summer.toml --to examples/august.toml --today 2024-07-20 --journal august.txt journal-1.txt journal-2.txt",
+        "JOURNAL is sold from no more: its seal says that it was carried, ahead of the first byte of NEW. A carry that was killed between the\ntwo is finished by the same command, given again. Where a leg of the new season has fewer seats than are held no file is written, and\na line of standard output, OVER, says so of each such leg.\n\nExample: seatdesk carry --from examples/summer.toml --to examples/august.toml --today 2024-07-20 --journal august.txt journal.txt\n\nThe report alone, of who would lose seats: seatdesk carry --from examples/summer.toml --to examples/august.toml --today 2024-07-20 --journal august.txt --displace --dry-run journal.txt\n\nOthers go to another flight, and some keep their seats first: seatdesk carry --from examples/summer.toml --to examples/august.toml --today 2024-07-20 --journal august.txt --protect protected.txt --order first.txt --displace journal.txt\n\nJournals of hosts that have different flights, in this order: seatdesk carry --from examples/summer.toml --to examples/august.toml --today 2024-07-20 --journal august.txt journal-1.txt journal-2.txt\n\nThe journal of the first of four hosts that have different flights from now on; the others have august.2 to august.4: seatdesk carry --from examples/summer.toml --to examples/august.toml --today 2024-07-20 --journal august.1 --shard 1/4 journal.txt",
     );
     with_arguments(alloc, Ok(carry), CARRY)
 }

@@ -8,6 +8,7 @@ use Rattle.carry_lines.specs.declared.mark.Mark.{Mark}
 use Rattle.carry_limits.specs.declared.wanting.Seasons.{Seasons}
 use Rattle.ssim_flights.specs.declared.flight.Flight.{Flight as Flown}
 use Rattle.carry_plans.specs.Plans.{AreChosen, marks_for}
+use Rattle.carry_plans.proofs.OwnParts.{whole_of}
 use Rattle.carry_plans.proofs.Parts.{full_of}
 use Rattle.carry_plans.proofs.Promising.{promised_of, stays_same}
 use Rattle.carry_plans.proofs.planning.plan_of.Goals as goal
@@ -47,3 +48,21 @@ returns-in-Ok-reported-clause-promised c =
     (subst (λ (l : List Flown). AreChosen c.args.asked.now c.args.courses.now c.args.before.now l c.args.news.now c.args.file.now c.args.parts.now.chosen.live.items
     c.args.parts.now.chosen.kept.items) (sym c.requires.old) c.requires.parts.chosen)
     c.requires.legal c.requires.ladders lines)
+
+pub returns-in-Ok-reported-clause-whole : goal.returns-in-Ok-reported-clause-whole
+returns-in-Ok-reported-clause-whole c =
+    let seasons : Seasons = record { old = c.args.old; before = c.args.before; flights = c.args.news; new = c.args.new; file = c.args.file; fresh = c.args.asked.now.fresh_limits } in
+    let lines : IsReplayed c.in-Ok-asked_anew.after c.args.file.now most_lines
+    (carried_lines c.args.file.now c.in-Ok.rows.items c.args.parts.now.chosen.kept.items c.in-Ok-marks_for.marks.items) =
+    subst (λ (x : List Change). IsReplayed c.in-Ok-asked_anew.after c.args.file.now most_lines
+    (carried_lines c.args.file.now x c.args.parts.now.chosen.kept.items c.in-Ok-marks_for.marks.items)) c.as_slice-lines.ensures.value
+    (subst (λ (x : List Owned). IsReplayed c.in-Ok-asked_anew.after c.args.file.now most_lines
+    (carried_lines c.args.file.now c.as_slice-lines.result.now x c.in-Ok-marks_for.marks.items)) c.as_slice-kept.ensures.value
+    (subst (λ (x : List Mark). IsReplayed c.in-Ok-asked_anew.after c.args.file.now most_lines
+    (carried_lines c.args.file.now c.as_slice-lines.result.now c.as_slice-kept.result.now x)) c.as_slice.ensures.value c.in-Ok-asked_anew.ensures.lines)) in
+    whole_of c.args.asked.now c.args.olds.now c.args.before.now c.args.news.now c.args.file.now c.args.parts.now.chosen.kept.items c.args.parts.now.by
+    c.in-Ok-asked_anew.after seasons c.in-Ok.rows.items c.in-Ok-marks_for.marks.items
+    (record { old_is = c.requires.old; before_is = refl; flights_are = refl; new_is = c.requires.new; file_is = refl; fresh_is = refl })
+    c.in-Ok.ensures.value
+    (subst (λ (n : List Flown). c.in-Ok-marks_for.marks.items ≡ marks_for c.args.asked.now.fresh_limits c.args.olds.now c.args.before.now n c.args.file.now) c.requires.new c.in-Ok-marks_for.ensures.marks)
+    lines

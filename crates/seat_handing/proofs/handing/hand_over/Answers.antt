@@ -11,8 +11,8 @@ returns-clause-never g c =
     never_both c.as_slice.result.now (put_back c.args.hand c.args.before.now) c.as_slice-2.result.now c.args.text.now c.as_slice-3.result.now
     (g.S.Replaced.may_leave c.args.seal.now) (g.J.Replaced.may_leave c.args.journal.now) (g.K.Replaced.may_leave c.args.new_seal.now)
     (g.S.Replaced.may_leave c.hand_in_order.new.seal) (g.J.Replaced.may_leave c.hand_in_order.new.journal) (g.K.Replaced.may_leave c.hand_in_order.new.new_seal)
-    (mark_of c.args.name.now c.args.text.now)
-    (subst (SaysCarried (mark_of c.args.name.now c.args.text.now)) (sym (c.as_slice.ensures.value ∙ c.text_of_mark-mark.ensures.text)) c.text_of_mark-mark.ensures.says)
+    (mark_of c.args.name.now c.args.whole.now)
+    (subst (SaysCarried (mark_of c.args.name.now c.args.whole.now)) (sym (c.as_slice.ensures.value ∙ c.text_of_mark-mark.ensures.text)) c.text_of_mark-mark.ensures.says)
     c.hand_in_order.ensures.order
 
 pub returns-clause-sealed : goal.returns-clause-sealed

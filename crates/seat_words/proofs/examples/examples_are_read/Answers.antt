@@ -171,6 +171,10 @@ pub returns-clause-joined : goal.returns-clause-joined
 unfolding seatdesk_app asking_app selling_app bare_app named_app ladder_app check_app flights_app cover_app rooms_app loads_app run_app serve_app route_app bookings_app audit_app seal_app recover_app replies_app told_app waiting_app pickup_app history_app avs_app reconcile_app compare_app carry_app changes_app why_app explain_app season_app horizon_app clap_on_literals
 returns-clause-joined c = record { taken = refl; found = refl }
 
+pub returns-clause-sharded : goal.returns-clause-sharded
+unfolding seatdesk_app asking_app selling_app bare_app named_app ladder_app check_app flights_app cover_app rooms_app loads_app run_app serve_app route_app bookings_app audit_app seal_app recover_app replies_app told_app waiting_app pickup_app history_app avs_app reconcile_app compare_app carry_app changes_app why_app explain_app season_app horizon_app clap_on_literals
+returns-clause-sharded c = record { taken = refl; found = refl }
+
 pub returns-clause-trial : goal.returns-clause-trial
 unfolding seatdesk_app asking_app selling_app bare_app named_app ladder_app check_app flights_app cover_app rooms_app loads_app run_app serve_app route_app bookings_app audit_app seal_app recover_app replies_app told_app waiting_app pickup_app history_app avs_app reconcile_app compare_app carry_app changes_app why_app explain_app season_app horizon_app clap_on_literals
 returns-clause-trial c = record { taken = refl; found = refl }
