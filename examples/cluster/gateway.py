@@ -1,10 +1,11 @@
 #!/usr/bin/python3
 """A gateway of desks: it sends the segment lines of their scripts, and the manager's rows, to the shards of their flights, and joins what they are answered.
 
-    examples/cluster/gateway.py LOG SHARDS DAY FOLDER [--program PROGRAM] [--lines N] [--epoch N] [--nodes NODE,..] [--changes FILE] SCRIPT..
+    examples/cluster/gateway.py LOG SHARDS DAY FOLDER [--program PROGRAM] [--lines N] [--epoch N] [--begun STEM] [--nodes NODE,..] [--changes FILE] SCRIPT..
 
 The scripts are named as `seatdesk run` names them: SCRIPT is that of session 1, the next that of session 2, or each is 5=SCRIPT. LOG is the name of the shards' log. A session belongs to one gateway.
-DAY is the one on which the lines are read, as 2024-06-20. Up to N lines, 16 if left out, go as one message of the log.
+DAY is the one on which the lines are read, as 2024-06-20. Up to N lines, 16 if left out, go as one message of the log. Where `seatdesk carry --shard` made the journals with which the shards began, those are
+STEM.1, STEM.2, .. as they were then: a session's numbers go on behind its own lines there, for journals of the epoch that --epoch says.
 
 FOLDER is the gateway's memory: FOLDER/sent has each numbered line, on the disk, before it is published, and FOLDER/told what the shards told of it, each line once (the log has it too, so that it
 need not be synced, and may be taken away). FOLDER/own has the name under which the log knows its messages. So a gateway that is started again sends what has no answer, under the same numbers, and
@@ -74,12 +75,12 @@ def body_of(lines, head):
 class Shard:
     """What goes to one shard, and what comes from it."""
 
-    def __init__(self, shard, rows, memory, way):
+    def __init__(self, shard, rows, memory, way, begun):
         self.shard, self.rows, self.memory, self.way = shard, collections.defaultdict(collections.deque), memory, way
         for row in rows:
             self.rows[row.session].append(row)
         self.lines, self.of_call = [], collections.defaultdict(list)  # in the order in which they were sent; by session and call
-        self.calls, self.own, self.told = collections.Counter(), collections.Counter(), set()  # of each session: the last number, the answers
+        self.calls, self.own, self.told = collections.Counter(begun), collections.Counter(begun), set()  # of each session: the last number, the answers
         self.sent, self.open, self.place, self.patience, self.changed = 0, 0, 0, SECONDS, threading.Condition()
         self.of_row = {}  # the manager's rows, by their lines in FILE
 
@@ -285,6 +286,14 @@ def routed(options):
     return rows
 
 
+def begun(way, shard):
+    """How many lines each session had when the shard began."""
+    if not way.begun:
+        return {}
+    with open(f"{way.begun}.{shard}", encoding="ascii") as it:
+        return collections.Counter(int(line.split(" ")[1]) for line in it if line[0].isdigit())
+
+
 def day(text):
     if not text.startswith("20") or str(datetime.date.fromisoformat(text)) != text:
         raise ValueError  # (a wrong day could not be taken out of a stream again)
@@ -307,13 +316,14 @@ def main():
     reader.add_argument("--program", default="seatdesk")
     reader.add_argument("--lines", type=count, default=16)
     reader.add_argument("--epoch", type=count, default=1)
+    reader.add_argument("--begun", metavar="STEM")
     reader.add_argument("--nodes", type=lambda it: it.split(","), default=NODES)
     reader.add_argument("--changes")
     way = reader.parse_intermixed_args()
     way.head = f"?DAY {way.day}\n?EPOCH {way.epoch}\n"
     rows, memory = routed(way), Memory(way.folder)
     way.sessions = {str(row.session) for own in rows.values() for row in own}
-    shards = {shard: Shard(shard, rows[shard], memory, way) for shard in range(1, way.shards + 1)}
+    shards = {shard: Shard(shard, rows[shard], memory, way, begun(way, shard)) for shard in range(1, way.shards + 1)}
     if memory.own:
         for text in memory.read("sent"):
             shard, session, call, place, rest = text.split(" ", 4)

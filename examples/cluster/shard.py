@@ -1,11 +1,12 @@
 #!/usr/bin/python3
 """The host of one shard, behind the log: it feeds the shard's stream to `seatdesk serve --feed -`, and puts what the host tells into the stream of replies.
 
-    examples/cluster/shard.py LOG SHARD/SHARDS FOLDER [NODE..] -- COMMAND WORD..
+    examples/cluster/shard.py LOG SHARD/SHARDS FOLDER [--behind LINES] [NODE..] -- COMMAND WORD..
 
 LOG is the name of its log, and 3/4 the third shard of four. COMMAND is what starts the host, as `seatdesk serve --set .. --limits .. --first .. --days .. --journal FOLDER/journal.txt`; `--feed -` is put behind it. FOLDER is this
 consumer's own. Start two of them, on two machines: the second waits until the first is gone, and then begins at the place that its own FOLDER has, or at the stream's
-first message. The journal is a function of the stream, so it is the same wherever it is made, and two hosts at once would tell the same.
+first message. The journal is a function of the stream, so it is the same wherever it is made, and two hosts at once would tell the same. Where the journal had lines ahead of the stream's first
+message, as one that `seatdesk carry --shard` made, LINES is how many, and each FOLDER has that journal and its seal to begin with.
 
 A message of the stream is one or more whole messages of desks behind the day on which they are read (`?DAY`). So each is a place to begin at, and its first answer, the
 manager's READY, says that all ahead of it was told. FOLDER/place has such a place, the largest number of a line that was told ahead of it, and the day that held.
@@ -25,8 +26,8 @@ SECONDS = 1.0  # between two places that are kept
 class Place:
     """Where the stream is read from behind a start."""
 
-    def __init__(self, folder):
-        self.file, self.kept = f"{folder}/place", 0.0
+    def __init__(self, folder, behind):
+        self.file, self.kept, self.behind = f"{folder}/place", 0.0, behind
         try:
             with open(self.file, encoding="ascii") as it:
                 at, lines, self.day = it.read().split()
@@ -35,7 +36,7 @@ class Place:
             self.begin()
 
     def begin(self):
-        self.at, self.lines, self.day = 0, 0, ""
+        self.at, self.lines, self.day = 0, self.behind, ""
 
     def keep(self, at, lines, day):
         self.at, self.lines, self.day = at, lines, day
@@ -122,13 +123,17 @@ def main(words):
     part = re.fullmatch(r"(\d+)/(\d+)", words[1]) if ends > 2 else None
     if not part or not 1 <= int(part[1]) <= int(part[2]):
         sys.exit(__doc__)
-    (log, shard, folder), nodes, command = words[:3], words[3:ends] or NODES, words[ends + 1 :]
+    (log, shard, folder), nodes, command = words[:3], words[3:ends], words[ends + 1 :]
+    behind = int(nodes[1]) if nodes[:1] == ["--behind"] else 0
+    nodes = nodes[2 if nodes[:1] == ["--behind"] else 0 :] or NODES
     os.makedirs(folder, exist_ok=True)
-    place = Place(folder)
+    place = Place(folder, behind)
     while True:
         host = Host(nodes, lambda kind: name_of(log, kind, *part.groups()), place, command)
         host.tell()
         status, said = host.end()
+        if "E2 behind" in said and (place.at, place.lines) == (0, behind):
+            fail(f"shard {shard}: the journal in {folder} has not the {behind} lines with which the shard began")
         if "E2 behind" in said:
             place.begin()  # an older copy of the journal has not come to the place
         elif status == 1:

@@ -29,9 +29,9 @@ class Cluster:
         with open(f"{self.room}/said", "ab") as said:
             self.running[name] = words, subprocess.Popen(words, env=self.env, stdin=subprocess.DEVNULL, stdout=said, stderr=said)
 
-    def consumer(self, log, shard, shards, folder):
+    def consumer(self, log, shard, shards, folder, behind=0):
         host = [self.program, "serve", *OVER, "--journal", f"{folder}/journal.txt"]
-        self.start(("consumer", folder), [f"{CLUSTER}/shard.py", log, f"{shard}/{shards}", folder, *self.nodes, "--", *host])
+        self.start(("consumer", folder), [f"{CLUSTER}/shard.py", log, f"{shard}/{shards}", folder, "--behind", str(behind), *self.nodes, "--", *host])
 
     def gateway(self, log, shards, name, *words):
         way = [log, str(shards), DAY, f"{self.room}/{name}", "--program", self.program, "--nodes", ",".join(self.nodes)]
