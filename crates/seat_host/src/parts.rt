@@ -1,5 +1,6 @@
 //! The parts of a host, which no type names yet.
-ghost use Rattle.std.specs.Prelude.{◌≡◌, ◌<◌, ◌≤◌, ◌⊎◌, ◌↔◌, [], IsTrue, OnOk, IfOk, IfErr, length};
+ghost use Rattle.std.specs.Prelude.{◌≡◌, ◌<◌, ◌≤◌, ◌⊎◌, ◌↔◌, [], All, IsTrue, OnOk, IfOk, IfErr, length, vec_len};
+ghost use Rattle.seat_display.specs.Faces.{opened};
 ghost use Rattle.seat_rules.specs.Journal.{IsLegal};
 ghost use Rattle.seat_rules.specs.Histories.{OnlyFirst};
 ghost use Rattle.seat_host.specs.declared.parts.HostFault.TheVariants.{Sessions, Memory as NoMemory};
@@ -92,15 +93,22 @@ impl Parts {
         if !is_in_range(sessions) {
             return Err(HostFault::Sessions);
         }
-        let Ok(grid) = core.grid().copy(alloc) else {
-            return Err(HostFault::Memory);
-        };
-        let Ok((publisher, viewers)) = open_display(rt, alloc, &grid, sessions + 1) else {
-            return Err(HostFault::Memory);
-        };
-        let Ok(publisher) = showing(rt, alloc, publisher, core.journal()) else {
-            return Err(HostFault::Memory);
-        };
+        match Parts::beside(rt, alloc, core, sessions) {
+            Ok(parts) => Ok(parts),
+            Err(Memory) => Err(HostFault::Memory),
+        }
+    }
+
+    // The parts around an inventory: a copy of its limits, and a table that shows its lines.
+    fn beside<R: Wait>(rt: &R, alloc: Global, core: Core, sessions: u8) -> Result<Parts, Memory>
+        requires most { core.cap ≤ 999999 }
+        requires only { OnlyFirst sessions core.journal }
+        requires sessions { (1 ≤ sessions) × (sessions ≤ 8) }
+        ensures parts { IfOk result (λ p. (p.grid ≡ core.grid) × (p.cap ≡ core.cap) × (p.sessions ≡ sessions)) }
+        ensures past { IfOk result (λ p. p.past ≡ core.journal) }
+    {
+        let grid = core.grid().copy(alloc)?;
+        let (publisher, viewers) = shown_over(rt, alloc, &grid, core.journal(), sessions + 1)?;
         Ok(Parts {
             grid,
             core,
@@ -110,6 +118,25 @@ impl Parts {
             blanks: Blanks::new(),
         })
     }
+}
+
+// A table for so many places that shows these lines, with its viewers.
+fn shown_over<R: Wait>(
+    rt: &R,
+    alloc: Global,
+    grid: &Grid,
+    lines: &[Entry],
+    places: u8,
+) -> Result<(Publisher, Vec<Viewer>), Memory>
+    requires places { (0 < places) × (places < 10) }
+    requires legal { IsLegal grid.now lines.now }
+    requires few { length lines.now ≤ 999999 }
+    ensures publisher { IfOk result (λ r. (r.0.grid ≡ grid.now) × (r.0.visible ≡ lines.now) × (r.0.pending ≡ [])) }
+    ensures viewers { IfOk result (λ r. (vec_len r.1 ≡ places) × All (λ v. v ≡ opened r.0.book grid.now) r.1.items) }
+{
+    let (publisher, viewers) = open_display(rt, alloc, grid, places)?;
+    let publisher = showing(rt, alloc, publisher, lines)?;
+    Ok((publisher, viewers))
 }
 
 // Whether a host can have so many sessions.
