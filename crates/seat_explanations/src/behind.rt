@@ -52,8 +52,9 @@ run, a host, recover and another carry refuse this one, and audit and the comman
 Where carry was killed, or its disk failed, the other journal may not be there, or not be whole: give the same carry again, and it is finished.
 #CARRY|unfinished|
 A carry of this journal was begun, and had another result or another NEW: the seal beside JOURNAL has the digest of that name and that result.
-Another --today, another season, --protect, --order, --displace or --fresh-limits make another result. Give the very command again that was
-begun, and it is finished; or --anew, by which this one takes its place. No seat may be sold from the other one then.
+Another --today, another season, --protect, --order, --displace or --fresh-limits make another result, and so does --shard H/M with another M, or
+with a NEW that is another path ahead of its .H. Give the very command again that was begun, and it is finished; or --anew, by which this one takes
+its place. No seat may be sold from the other one then.
 #CARRY|new|
 NEW has bytes, and they are of another journal than the one that this carry makes, or of that one with lines behind it. It is never replaced:
 seats may be sold from it. Name a file that is not there, or an empty one.
