@@ -155,16 +155,21 @@ fn is_switched(matches: &ArgMatches<'_>, id: &str) -> bool
 pub fn wrong_value(alloc: Global, message: &str) -> Result<Error, AllocError>
     ensures { IfOk result (λ e. kind_of e ≡ InvalidValue) }
 {
-    let mut command = seatdesk_command(alloc)?;
-    command.error(ErrorKind::InvalidValue, message)
+    fault_of_kind(alloc, ErrorKind::InvalidValue, message)
 }
 
 /// The fault of a word beside which another may not stand, with the usage of the program. An error is want of memory.
 pub fn words_in_conflict(alloc: Global, message: &str) -> Result<Error, AllocError>
     ensures { IfOk result (λ e. kind_of e ≡ ArgumentConflict) }
 {
+    fault_of_kind(alloc, ErrorKind::ArgumentConflict, message)
+}
+
+fn fault_of_kind(alloc: Global, kind: ErrorKind, message: &str) -> Result<Error, AllocError>
+    ensures { IfOk result (λ e. kind_of e ≡ kind) }
+{
     let mut command = seatdesk_command(alloc)?;
-    command.error(ErrorKind::ArgumentConflict, message)
+    command.error(kind, message)
 }
 
 #[tactic(auto, using(crate::proofs::Lines::nothing_found, crate::proofs::Lines::line_found))]
