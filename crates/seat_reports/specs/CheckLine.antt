@@ -14,6 +14,9 @@ IsEndText (Some day) text = IsDateText day text
 abbrev pub mode_text : Bool → List ℕ
 mode_text local = (if local then codes " L " else codes " U ")
 
+abbrev pub counts_text : ℕ → ℕ → List ℕ
+counts_text legs segments = codes " legs " ++ decimal legs ++ codes " segments " ++ decimal segments ++ 10 ∷ []
+
 -- AIRLINE MODE FROM TO legs N segments N
 pub record IsCheckLine (set : DataSet) (line : List ℕ) : Type 0 where
   pub from : List ℕ
@@ -21,7 +24,7 @@ pub record IsCheckLine (set : DataSet) (line : List ℕ) : Type 0 where
   pub is_from : IsDateText set.carrier.from from
   pub is_to : IsEndText set.carrier.to to
   pub written : line ≡ set.carrier.airline ++ mode_text set.carrier.local ++ from ++ codes " " ++ to
-      ++ codes " legs " ++ decimal (length set.legs) ++ codes " segments " ++ decimal set.segments ++ 10 ∷ []
+      ++ counts_text (length set.legs) set.segments
 
 -- the bytes are not too large, and the line sums up the data set that they are
 pub record Sums (bytes line : List ℕ) : Type 0 where

@@ -5,6 +5,7 @@ use Rattle.ssim_flights.specs.declared.flight.Flight.{Flight as Flown}
 use Rattle.seat_disk.specs.Leaving.{Only, replaced_by}
 use Rattle.seat_limits.specs.Authorised.{authorised_grid}
 use Rattle.seat_limits.specs.declared.limit_row.LimitRow.{LimitRow}
+use Rattle.seat_nesting.specs.Nesting.{Ladders}
 use Rattle.seat_rules.specs.Inventory.{Inventory}
 use Rattle.seat_seal.specs.Besides.{IsFaultBeside}
 use Rattle.seat_seal.specs.Eras.{first_era}
@@ -66,6 +67,16 @@ pub record IsEntryOf (basis : Basis) (era : Era) (imprint : Imprint) (lines : �
   pub lines_are : entry.journal.lines ≡ lines
   pub state : entry.journal.state ≡ Closed
   pub runs_are : entry.runs ≡ runs
+
+-- the bytes of the journal are a legal history over the grid, and this is the entry of it on this basis, with the runs and the era that
+-- are kept of what stands beside it
+pub record IsEntryOver (beside : Beside) (basis : Basis) (grid : Ladders) (journal : List ℕ) (entry : Belonging) : Type 0 where
+  pub core : Inventory
+  pub is_replay : IsReplayOf grid journal core
+  pub runs : List Run
+  pub era : Era
+  pub are_kept : AreKept beside basis journal runs era
+  pub is_entry : IsEntryOf basis era (imprint_of (front_of journal)) (length core.journal) runs entry
 
 -- the bytes of the journal are a legal history over the ladders of these inputs, and this is the entry of it, with the runs and the era that are kept
 -- of what stands beside it

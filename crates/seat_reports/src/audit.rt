@@ -8,7 +8,7 @@ ghost use Rattle.seat_desk.specs.Desk.{InputFailed, IsOfInput, IsWritten, Output
 use airline_base::{NotedRead, NotedWrite, put_all};
 use seat_desk::{
     DeskFault, Inputs, Loaded, MOST_JOURNAL_BYTES, Question, agreed, audit_line, load_based,
-    read_input, replayed_in_parts, totalled,
+    read_input, totalled,
 };
 use seat_nesting::Grid;
 use seat_seal::Beside;
@@ -34,18 +34,7 @@ impl Question for Audit {
         loaded: Loaded,
         journal: Vec<u8>,
     ) -> Result<Vec<u8>, DeskFault> {
-        let Loaded {
-            flights,
-            rows,
-            grid,
-        } = loaded;
-        drop(flights);
-        drop(rows);
-        let core = replayed_in_parts(rt, alloc, grid, journal)?;
-        match audit_line(alloc, core.totals()) {
-            Ok(line) => Ok(line),
-            Err(_) => Err(DeskFault::Memory),
-        }
+        line_over(rt, alloc, loaded, journal)
     }
 }
 

@@ -1,8 +1,8 @@
 //! `check`: a data set, and one line that sums it up.
-ghost use Rattle.std.specs.Prelude.{◌≡◌, ◌≢◌, ◌<◌, ◌≤◌, ◌⊎◌, IfErr, IfOk, IfSome, OnOk, length};
+ghost use Rattle.std.specs.Prelude.{◌≡◌, ◌≢◌, ◌++◌, ◌<◌, ◌≤◌, ◌⊎◌, IfErr, IfOk, IfSome, OnOk, length};
 ghost use Rattle.seat_desk.specs.CheckDesk.{IsRefusedSet, most_set_bytes};
 ghost use Rattle.seat_desk.specs.Desk.{HasFailed, InputFailed, IsOfInput, IsWritten, OfInput, OutputFailed};
-ghost use Rattle.seat_reports.specs.CheckLine.{IsCheckLine, IsEndText, Sums, mode_text};
+ghost use Rattle.seat_reports.specs.CheckLine.{IsCheckLine, IsEndText, Sums, counts_text, mode_text};
 
 use airline_base::{Day, NotedRead, NotedWrite, put_all};
 use seat_desk::{DeskFault, MOST_SET_BYTES, data_set, put, put_number, read_input};
@@ -56,12 +56,19 @@ fn line_of(alloc: Global, set: &DataSet) -> Result<Vec<u8>, AllocError>
     put(&mut line, &set.carrier.from.bytes())?;
     put(&mut line, b" ")?;
     put(&mut line, &end_of(set.carrier.to))?;
-    put(&mut line, b" legs ")?;
-    put_number(&mut line, set.legs.len() as u64)?;
-    put(&mut line, b" segments ")?;
-    put_number(&mut line, u64::from(set.segments))?;
-    put(&mut line, b"\n")?;
+    put_counts(&mut line, set.legs.len() as u64, u64::from(set.segments))?;
     Ok(line)
+}
+
+/// Adds how many legs and segments there are, and ends the line.
+fn put_counts(line: &mut Vec<u8>, legs: u64, segments: u64) -> Result<(), AllocError>
+    ensures { OnOk result (line.new.items ≡ line.old.items ++ counts_text legs segments) }
+{
+    put(line, b" legs ")?;
+    put_number(line, legs)?;
+    put(line, b" segments ")?;
+    put_number(line, segments)?;
+    put(line, b"\n")
 }
 
 fn mode(local: bool) -> &'static [u8]

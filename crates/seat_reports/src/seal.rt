@@ -1,5 +1,5 @@
 //! `seal`: the seal of a journal that an audit accepts.
-ghost use Rattle.std.specs.Prelude.{◌≡◌, ◌≢◌, ◌⊎◌, ◌≤◌, true, false, IfErr, IfOk, OnErr, OnOk};
+ghost use Rattle.std.specs.Prelude.{◌≡◌, ◌≢◌, ◌⊎◌, ◌≤◌, true, false, IfErr, IfOk, OnErr, OnOk, length};
 ghost use Rattle.airline_base.specs.Noting.{noted};
 ghost use Rattle.ssim_flights.specs.Right.{IsOfCentury};
 ghost use Rattle.seat_disk.specs.Keeping.{KeepsNoMore};
@@ -10,15 +10,16 @@ ghost use Rattle.seat_seal.specs.Text.{seal_text};
 ghost use Rattle.seat_seal.specs.declared.comparing.SealFault.TheVariants.{Journal};
 ghost use Rattle.seat_seal.specs.declared.seal.SealEntry.TheVariants.{Sealed as Told};
 ghost use Rattle.seat_desk.specs.Answering.{HasFirstFailed, IsFirstTooLargeOf, IsRefusedAnswerOf};
-ghost use Rattle.seat_desk.specs.AuditDesk.{IsUnlawful};
+ghost use Rattle.seat_desk.specs.AuditDesk.{IsUnlawful, most_journal_bytes};
 ghost use Rattle.seat_desk.specs.Desk.{HasFailed, InputFailed, IsOfInput};
-ghost use Rattle.seat_reports.specs.SealDesk.{era_carried, AreKept, IsEntryOf, IsMisnumberedOf, IsPut, IsSealOfKnown, PuttingFailed, nothing};
+ghost use Rattle.seat_reports.specs.SealDesk.{era_carried, AreKept, IsEntryOf, IsEntryOver, IsMisnumberedOf, IsPut, IsSealOfKnown, PuttingFailed, nothing};
 
 use airline_base::NotedRead;
 use seat_desk::{
     Based, DeskFault, Inputs, Loaded, MOST_JOURNAL_BYTES, load_based, read_input, replayed_in_parts,
 };
 use seat_disk::{Replaced, replace_whole};
+use seat_nesting::Grid;
 use seat_seal::{
     Basis, Beside, Date, Era, Imprint, JournalState, Runs, Seal, SealEntry, SealFault, SealText,
     Sealed, SealedJournal, era_known, fault_beside, front_of, imprint_of, is_sealed, known_of,
@@ -101,16 +102,37 @@ fn sealed<R: Threads + Sync, S: NotedRead, L: NotedRead, J: NotedRead>(
         Ok(bytes) => bytes,
         Err(fault) => return Err(fault),
     };
+    let entry = match entry_over(rt, alloc, grid, bytes, &basis, beside) {
+        Ok(entry) => entry,
+        Err(fault) => return Err(fault),
+    };
+    match text_of(entry) {
+        Ok(text) => Ok(text),
+        Err(fault) => Err(fault),
+    }
+}
+
+/// The entry of a journal that is a legal history over this grid, with what is kept of what stands beside it.
+fn entry_over<R: Threads + Sync>(
+    rt: &R,
+    alloc: Global,
+    grid: Grid,
+    bytes: Vec<u8>,
+    basis: &Basis,
+    beside: &Beside<'_>,
+) -> Result<Sealed, DeskFault>
+    requires { length bytes.items ≤ most_journal_bytes }
+    ensures ok { IfOk result (IsEntryOver beside.now basis.now grid bytes.items) }
+    ensures fault { IfErr result (λ f. f ≢ DeskFault.Memory → IsUnlawful grid f bytes.items) }
+    ensures kind { IfErr result (λ f. (f ≢ DeskFault.Device) × (f ≢ DeskFault.TooLarge)) }
+{
     let imprint = imprint_of(front_of(&bytes));
-    let (runs, era) = kept_of(beside, &basis, &bytes);
+    let (runs, era) = kept_of(beside, basis, &bytes);
     let core = match replayed_in_parts(rt, alloc, grid, bytes) {
         Ok(core) => core,
         Err(fault) => return Err(fault),
     };
-    match text_of(entry_of(&basis, era, imprint, core.journal().len() as u32, runs)) {
-        Ok(text) => Ok(text),
-        Err(fault) => Err(fault),
-    }
+    Ok(entry_of(basis, era, imprint, core.journal().len() as u32, runs))
 }
 
 /// What is kept of what stands beside a journal: the runs and the era that it knows, where it has no fault; and else where its bookings were carried.
