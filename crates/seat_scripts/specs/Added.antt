@@ -1,5 +1,5 @@
 -- The lines that were added to a journal behind a past, just what the scripts ask, with all that they are read beside.
-use Rattle.std.specs.Prelude.{ℕ, List, Option}
+use Rattle.std.specs.Prelude.{◌≡◌, ◌≤◌, ℕ, List, Option, drop, length, take}
 use Rattle.airimp_lines.specs.declared.requests.Request.{Request}
 use Rattle.ssim_flights.specs.declared.flight.Flight.{Flight as Flown}
 use Rattle.seat_nesting.specs.Nesting.{Ladders}
@@ -11,6 +11,21 @@ use Rattle.seat_desk.specs.declared.inputs.Inputs.{Inputs}
 use Rattle.seat_scripts.specs.Against.{AreAsked, IsParted, IsReplayWithin, OfFour}
 use Rattle.seat_scripts.specs.Taken.{WithTaken}
 use Rattle.seat_replies.specs.Requests.{AreScripts}
+use Rattle.seat_scripts.specs.declared.added.Added.{Added}
+use Rattle.seat_scripts.specs.declared.against.Against.{Against}
+
+-- the lines behind so many of what is read
+abbrev pub added_of : Against → ℕ → Added
+added_of read past = record { flights = read.flights; scripts = read.scripts; core = read.core; past = past }
+
+-- the journal has a past, and behind it just what the scripts ask
+pub record IsAddedIn (read : Against) (added : Added) : Type 0 where
+  pub past : ℕ
+  pub added_is : added ≡ added_of read past
+  pub within : past ≤ length read.core.journal
+  pub parted : IsParted read.older.journal read.more (take past read.core.journal) (drop past read.core.journal)
+      read.core.journal
+  pub are_asked : AreAsked read.flights read.scripts (drop past read.core.journal)
 
 -- the inputs are right: these are the flights of the set and the requests of the scripts, the journal is this past and these lines behind it, and
 -- they are just what the scripts ask

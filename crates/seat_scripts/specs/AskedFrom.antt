@@ -1,5 +1,5 @@
 -- What scripts and changes ask of a run that is started, and what is wrong with one of them.
-use Rattle.std.specs.Prelude.{◌≡◌, ◌<◌, ◌⊎◌, ℕ, Bool, List, length, Option, None, Some, IfSome}
+use Rattle.std.specs.Prelude.{◌≡◌, ◌<◌, ◌⊎◌, ◌||◌, ℕ, Bool, List, length, Option, None, Some, IfSome}
 use Rattle.std.specs.List.{AllByRecursion}
 use Rattle.airimp_lines.specs.declared.requests.Request.{Request}
 use Rattle.seat_seal.specs.Booked.{changes_booked, scripts_booked}
@@ -74,6 +74,21 @@ asked_by start read = record {
   behind = length start.past.journal;
   earlier = carried_by start.known;
 }
+
+-- a run that the seal knows booked what one of them begins with
+abbrev pub is_repeated : Texts → Bool
+is_repeated read = read.scripts.is_booked || read.changes.are_booked
+
+-- the seal has nothing against what they ask
+pub record IsUnopposed (start : Start) (again : Bool) (read : Texts) (asked : Asked) : Type 0 where
+  pub answer_is : fault_of_past again start.known (is_repeated read) ≡ None
+  pub asked_is : asked ≡ asked_by start read
+
+-- or this
+pub record IsOpposed (start : Start) (again : Bool) (read : Texts) (fault : DeskFault) : Type 0 where
+  pub of_past : SealFault
+  pub answer_is : fault_of_past again start.known (is_repeated read) ≡ Some of_past
+  pub fault_is : fault ≡ Seal of_past
 
 -- this is asked, and the seal has nothing against it
 pub record IsAskedFrom (start : Start) (again : Bool) (today : ℕ) (texts : List (Option (List ℕ)))

@@ -34,6 +34,18 @@ pub record AreBeside (read : Against) (given : Option ℕ) (again : Bool) (chang
   pub is_imprint : IsImprintOf changing made.imprint
   pub is_judged : IsJudgedBeside read given again changing None
 
+-- this is what is left of the scripts and these changes, behind as many lines
+pub record IsLeft (read : Against) (made : ReadChanges) (asked : Asked) : Type 0 where
+  pub is_rest : IsRestOf read.flights read.scripts made.changes.items read.older.journal read.more read.core.journal
+      asked.scripts asked.changes.items
+  pub flights_are : asked.flights ≡ read.flights
+  pub past_is : asked.past ≡ read.core
+  pub basis_is : asked.basis ≡ read.basis
+  pub imprints_are : asked.imprints ≡ read.imprints
+  pub imprint_is : asked.changes_imprint ≡ made.imprint
+  pub behind_is : asked.behind ≡ lines_ahead read
+  pub earlier_is : asked.earlier ≡ carried_by read.known
+
 -- so it is, and this is what is left of both, behind as many lines
 pub record IsGoneOn (read : Against) (given : Option ℕ) (again : Bool) (changing : Option (List ℕ)) (asked : Asked) :
     Type 0 where

@@ -1,9 +1,11 @@
 -- Two journals that are read one behind the other, over a set and limits that are right, and what scripts ask behind them; or what is wrong with one of these.
 use Rattle.std.specs.Prelude.{◌≡◌, ◌≤◌, ◌<◌, ◌+◌, ◌⊎◌, ℕ, Bool, IsTrue, List, length, Option, Some, IfSome}
 use Rattle.std.specs.List.{AllByRecursion}
+use Rattle.seat_rules.specs.Inventory.{Inventory}
 use Rattle.seat_rules.specs.Journal.{IsLegal}
 use Rattle.seat_seal.specs.Booked.{scripts_booked}
 use Rattle.seat_seal.specs.Known.{IsKnown, runs_known}
+use Rattle.seat_seal.specs.declared.beside.Beside.{Beside}
 use Rattle.seat_desk.specs.Answering.{IsFirstTooLarge}
 use Rattle.seat_desk.specs.AuditDesk.{most_journal_bytes, most_lines}
 use Rattle.seat_desk.specs.Desk.{IsOfInput}
@@ -12,11 +14,12 @@ use Rattle.seat_desk.specs.Sealing.{IsBasisOf}
 use Rattle.seat_desk.specs.declared.fault.DeskFault.{DeskFault}
 use Rattle.seat_desk.specs.declared.fault.DeskFault.TheVariants.{Device, TooLarge}
 use Rattle.seat_desk.specs.declared.inputs.Inputs.{Inputs}
+use Rattle.seat_desk.specs.declared.loading.Based.{Based}
 use Rattle.seat_replies.specs.Asked.{OfThree}
 use Rattle.seat_replies.specs.Requests.{AreRight, AreScripts, IsTooLargeAmong}
 use Rattle.seat_scripts.specs.Against.{IsOfReadingWhere, IsReplayWithin, IsUnlawfulBeside, OfFour}
 use Rattle.seat_scripts.specs.AskedFrom.{IsNoScript}
-use Rattle.seat_scripts.specs.Beside.{FailsStart}
+use Rattle.seat_scripts.specs.Beside.{FailsStart, IsFaultless}
 use Rattle.seat_scripts.specs.Both.{BothAgreeOf, IsOlderSealed, IsRefusedSealed}
 use Rattle.seat_scripts.specs.Repeated.{IsOneBooked}
 use Rattle.seat_scripts.specs.Taken.{lines_taken}
@@ -24,9 +27,33 @@ use Rattle.seat_scripts.specs.TextImprints.{AreImprints}
 use Rattle.seat_scripts.specs.declared.against.Against.{Against}
 use Rattle.seat_scripts.specs.declared.besides.Besides.{Besides}
 use Rattle.seat_scripts.specs.declared.journals.Journals.{Journals}
+use Rattle.seat_scripts.specs.declared.past.Known.{Known}
 use Rattle.seat_scripts.specs.declared.scripts.ReadScripts.{ReadScripts}
 
 -- ---- the journals
+
+-- both, where this is read of the second over what is loaded
+abbrev pub journals_by : Based → Inventory → Known → Journals
+journals_by based older read = record {
+  flights = based.loaded.flights;
+  older = older;
+  core = read.past;
+  basis = based.basis;
+  known = read.last;
+}
+
+-- the second is replayed over the grid that is loaded, and agrees with what stands beside it
+pub record AreJournalsBeside (beside : Beside) (based : Based) (older : Inventory) (journal : Option (List ℕ))
+    (both : Journals) : Type 0 where
+  pub read : Known
+  pub both_are : both ≡ journals_by based older read
+  pub is_replay : IfSome journal (IsReplayWithin based.loaded.grid read.past)
+  pub agrees : IfSome journal (IsFaultless beside based.basis)
+  pub is_known : IfSome journal (λ bytes. IsKnown beside bytes read.last)
+  pub grid_is : read.past.grid ≡ based.loaded.grid
+  pub is_legal : IsLegal read.past.grid read.past.journal
+  pub most : read.past.cap ≡ most_lines
+  pub few_lines : length read.past.journal ≤ most_lines
 
 -- the set and the limits are loaded, and both journals, each of which agrees with what stands beside it, are replayed over their grid
 pub record AreJournals {S L : Type 0} (besides : Besides) (set : Bytes S) (limits : Bytes L) (inputs : Inputs S L)

@@ -10,7 +10,7 @@ ghost use Rattle.seat_desk.specs.Loading.{HasFirstLoadFailed, IsGridOf};
 ghost use Rattle.seat_desk.specs.Sealing.{IsBasisOf};
 ghost use Rattle.seat_seal.specs.Known.{IsCarried};
 ghost use Rattle.seat_replies.specs.Asked.{IsAskedOf};
-ghost use Rattle.seat_scripts.specs.AskedFrom.{AreNoTexts, AreTexts, IsAskedFrom, IsNotAskedFrom, asked_by};
+ghost use Rattle.seat_scripts.specs.AskedFrom.{AreNoTexts, AreTexts, IsAskedFrom, IsNotAskedFrom, IsOpposed, IsUnopposed, asked_by};
 ghost use Rattle.seat_scripts.specs.Beside.{AgreesOf, FailsSealedRun, IsRefusedSealedRunOf, IsTooLargeSealedRunOf};
 ghost use Rattle.seat_replies.specs.Changes.{IsOnLeg};
 ghost use Rattle.seat_scripts.specs.ReadAsked.{IsNotAsked, IsReadAsked};
@@ -166,6 +166,17 @@ fn asked_from<C: NotedRead, D: NotedRead>(
         Ok(read) => read,
         Err(fault) => return Err(fault),
     };
+    match asked_of(again, start, read) {
+        Ok(asked) => Ok(asked),
+        Err(fault) => Err(fault),
+    }
+}
+
+/// What these scripts and changes ask, where the seal has nothing against it.
+fn asked_of(again: bool, start: Start, read: Texts) -> Result<Asked, DeskFault>
+    ensures ok { IfOk result (IsUnopposed start again read) }
+    ensures fault { IfErr result (IsOpposed start again read) }
+{
     let is_repeated = either(read.scripts.is_booked, read.changes.are_booked);
     match of_past(again, &start.known, is_repeated) {
         Ok(()) => Ok(asked_by(start, read)),

@@ -57,8 +57,7 @@ pub fn session_replies(
     Ok(text)
 }
 
-/// Adds the wanted answers to the lines of a session: the manager, session 0, has no script, and the first script is that of session 1.
-#[tactic(auto, using(crate::proofs::Sessions::managed, crate::proofs::Sessions::scripted, crate::proofs::Sessions::unscripted))]
+/// Adds the wanted answers to the lines of a session.
 fn put_session(
     text: &mut Vec<u8>,
     flights: &Flights,
@@ -73,20 +72,21 @@ fn put_session(
     ensures { OnOk result (IsPut (IsWantedAnswer wanted flights.now (requests_of scripts.now session) journal.now) 0
         (of_session session lines.now) text.old.items text.new.items) }
 {
+    let requests = requests_of(scripts, session);
+    put_answers(text, flights, requests, session, journal, lines, wanted)
+}
+
+/// What a session asks: the manager, session 0, has no script, and the first script is that of session 1.
+#[tactic(auto, using(crate::proofs::Sessions::managed, crate::proofs::Sessions::scripted, crate::proofs::Sessions::unscripted))]
+pub(crate) fn requests_of(scripts: &[Requests], session: usize) -> &[Request]
+    ensures { result.now ≡ requests_of scripts.now session }
+{
     if session == 0 {
-        return put_answers(text, flights, &[], session, journal, lines, wanted);
+        return &[];
     }
     match scripts.get(session - 1) {
-        Some(script) => put_answers(
-            text,
-            flights,
-            script.as_slice(),
-            session,
-            journal,
-            lines,
-            wanted,
-        ),
-        None => put_answers(text, flights, &[], session, journal, lines, wanted),
+        Some(script) => script.as_slice(),
+        None => &[],
     }
 }
 

@@ -9,6 +9,7 @@ ghost use Rattle.seat_replies.specs.Requests.{AreRight};
 ghost use Rattle.seat_scripts.specs.Resuming.{AreLeft, HasBegun, HaveBegunBelow, IsFirstStranger, IsStranger, IsUnbegun, left_from};
 ghost use Rattle.seat_replies.specs.RunDesk.{requests_of};
 
+use crate::by_session::requests_of;
 use crate::scripts::Scripts;
 use airimp_lines::{Request, Requests, requests_behind};
 use seat_desk::DeskFault;
@@ -101,11 +102,8 @@ fn has_begun(
     ensures line { IfErr result (λ place. place ≤ length (done_by session lines.now)) }
     ensures few { IfErr result (λ place. place ≤ most_lines) }
 {
-    let place = usize::from(session) - 1;
-    match scripts.get(place) {
-        Some(script) => begins_with(flights, script.as_slice(), lines, session),
-        None => begins_with(flights, &[], lines, session),
-    }
+    let requests = requests_of(scripts, usize::from(session));
+    begins_with(flights, requests, lines, session)
 }
 
 /// Whether the lines of a session are the first of these requests; else the first line of it, from 1, that is not.

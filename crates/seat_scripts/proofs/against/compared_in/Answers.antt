@@ -9,10 +9,10 @@ compared-requires-clause-few c = subst (λ (s : List (List Request)). length s �
 
 pub returns-clause-asked : goal.returns-clause-asked
 returns-clause-asked c =
-    let read = c.args.read.now in
+    let read = c.args.read in
     subst (λ (s : List (List Request)). OnOk c.compared.result (AreAskedBehind read.flights s read.older.journal read.more read.core.journal)) c.as_slice.ensures c.compared.ensures.asked
 
 pub returns-clause-fault : goal.returns-clause-fault
 returns-clause-fault c =
-    let read = c.args.read.now in
+    let read = c.args.read in
     subst (λ (s : List (List Request)). IfErr c.compared.result (λ (f : DeskFault). f ≢ Memory → IsUnasked read.flights s read.older.journal read.more read.core.journal f)) c.as_slice.ensures c.compared.ensures.fault

@@ -1,7 +1,10 @@
 use Rattle.std.proofs.Common.{◌+◌, ◌∙◌, ℕ, List, sym, take}
-use Rattle.seat_scripts.proofs.Sessions.{AnsweredSoFar, answered_other, answered_own, entry_answerable}
+use Rattle.seat_scripts.proofs.Sessions.{AnsweredSoFar, all_answered, answered_other, answered_own, entry_answerable, none_answered}
 use Rattle.seat_scripts.proofs.by_session.put_answers.Goals as goal
 use Rattle.seat_scripts.proofs.by_session.put_answers.Goals.{then-from-session+in_ok-put_wanted, else-from-session}
+
+pub loop-entry-init : goal.loop-entry-init
+loop-entry-init c = none_answered c.args.wanted c.args.flights.now c.args.requests.now c.args.journal.now c.args.session c.args.text.now.items
 
 pub put_wanted-requires : goal.put_wanted-requires
 put_wanted-requires c =
@@ -19,3 +22,8 @@ loop-entry-preserved c =
           (answered_other c.args.wanted c.args.flights.now c.args.requests.now c.args.journal.now c.args.session c.loop-entry.place c.args.lines.now c.loop-entry.entry-index c.entry-item.result c.args.text.now.items c.loop-entry.text.items
           c.loop-entry-test.true c.entry-item.is c.loop-entry.invariant (λ own. w.if-from-session.false (c.from.ensures ∙ own)))
     ]
+
+pub returns : goal.returns
+returns c =
+    all_answered c.args.wanted c.args.flights.now c.args.requests.now c.args.journal.now c.args.session c.loop-entry.place c.loop-entry.entry-index c.args.lines.now c.args.text.now.items c.loop-entry.text.items
+    c.loop-entry.invariant c.loop-entry-test.false

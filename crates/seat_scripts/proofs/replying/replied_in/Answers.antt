@@ -10,10 +10,10 @@ replied-requires-clause-few c = subst (λ (s : List (List Request)). length s �
 
 pub returns-clause-ok : goal.returns-clause-ok
 returns-clause-ok c =
-    let read = c.args.read.now in
+    let read = c.args.read in
     subst (λ (s : List (List Request)). IfOk c.replied.result (λ text. AreRepliesBehind read.flights s read.older.journal read.more read.core.journal c.args.wanted text.items)) c.as_slice.ensures c.replied.ensures.ok
 
 pub returns-clause-fault : goal.returns-clause-fault
 returns-clause-fault c =
-    let read = c.args.read.now in
+    let read = c.args.read in
     subst (λ (s : List (List Request)). IfErr c.replied.result (λ (f : DeskFault). f ≢ Memory → IsUnasked read.flights s read.older.journal read.more read.core.journal f)) c.as_slice.ensures c.replied.ensures.fault

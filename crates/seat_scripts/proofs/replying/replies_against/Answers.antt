@@ -8,8 +8,8 @@ use Rattle.seat_scripts.proofs.replying.replies_against.Goals as goal
 pub returns-in-Err-clause-none : goal.returns-in-Err-clause-none
 returns-in-Err-clause-none g c = c.in-Err.ensures.none
 
-pub returns-clause-none : goal.returns-clause-none
-returns-clause-none g c =
+pub returns-in-Err-replied_in-clause-none : goal.returns-in-Err-replied_in-clause-none
+returns-in-Err-replied_in-clause-none g c =
     let wrong = c.in-Err-replied_in in
     no_lines g.S.Read.remaining g.L.Read.remaining c.args.inputs.now (g.A.Read.remaining c.args.after.now) (g.J.Read.remaining c.args.journal.now) c.args.besides.now c.args.given c.args.today (map g.C.Read.remaining c.args.scripts.now)
     _ _ _ _ wrong.fault false c.in-Ok.read c.in-Ok.ensures.ok wrong.ensures.fault wrong.ensures.kind.0 wrong.ensures.kind.1
