@@ -1,6 +1,13 @@
 use Rattle.seat_limits.specs.Authorised.{authorised_legs}
-use Rattle.seat_limits.proofs.Grids.{flights_more, ladders_more}
+use Rattle.seat_limits.proofs.Grids.{built_ladders, flights_more, ladders_more}
 use Rattle.seat_limits.proofs.building.build_grid.Goals as goal
+
+pub loop-i-init : goal.loop-i-init
+loop-i-init c = record {
+  legs = c.in_ok-grid.ensures.items;
+  shares = c.in_ok-shares.ensures;
+  distinct = rw c.in_ok-grid.ensures.items built_ladders;
+}
 
 pub loop-i-preserved : goal.loop-i-preserved
 loop-i-preserved c = record {
