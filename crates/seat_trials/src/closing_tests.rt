@@ -4,139 +4,122 @@ use crate::texts::{lines_of_closings, same_ladders};
 use crate::trial::{Why, entries};
 use crate::worked_set::{grid, two_legs};
 use seat_journal::Entry;
-use seat_rules::ReplayKind;
+use seat_nesting::Grid;
+use seat_rules::ReplayKind::{
+    self, BadCaller, BadCommand, BadNumber, OtherAdvices, OtherReleased, OtherReply,
+};
 use std::alloc::Global;
 use std::test::Fail;
 use std::thread::Threads;
 
 /// A line in place of another of the closings, the first entry with a fault then, and the fault; no number where there is none.
-#[derive(Clone, Copy)]
-struct Spoilt {
-    line: &'static [u8],
-    at: usize,
-    number: u32,
-    kind: ReplayKind,
-}
-
-fn in_place(line: &'static [u8], at: usize, number: u32, kind: ReplayKind) -> Spoilt {
-    Spoilt {
-        line,
-        at,
-        number,
-        kind,
-    }
-}
+type Spoilt = (&'static [u8], usize, u32, ReplayKind);
 
 /// Line 14 opens M on a leg where two seats wait for it.
-fn opened() -> [Spoilt; 13] {
-    [
-        in_place(
+fn opened() -> &'static [Spoilt] {
+    &[
+        (
             b"15 0 4 V3 ST 0.0 M O OK 0 KL:2:0.0.0:M:2",
             14,
             14,
-            ReplayKind::BadNumber,
+            BadNumber,
         ),
-        in_place(
+        (
             b"14 1 11 V3 ST 0.0 M O OK 0 KL:2:0.0.0:M:2",
             14,
             14,
-            ReplayKind::BadCaller,
+            BadCaller,
         ),
-        in_place(
+        (
             b"14 0 5 V3 ST 0.0 M O OK 0 KL:2:0.0.0:M:2",
             14,
             14,
-            ReplayKind::BadCaller,
+            BadCaller,
         ),
-        in_place(
+        (
             b"14 0 4 V3 ST 2.0 M O OK 0 KL:2:0.0.0:M:2",
             14,
             14,
-            ReplayKind::BadCommand,
+            BadCommand,
         ),
-        in_place(
+        (
             b"14 0 4 V3 ST 0.2 M O OK 0 KL:2:0.0.0:M:2",
             14,
             14,
-            ReplayKind::BadCommand,
+            BadCommand,
         ),
-        in_place(
+        (
             b"14 0 4 V3 ST 0.0 M O NO 0 KL:2:0.0.0:M:2",
             14,
             14,
-            ReplayKind::OtherReply,
+            OtherReply,
         ),
-        in_place(
+        (
             b"14 0 4 V3 ST 0.0 Q O OK 0 KL:2:0.0.0:M:2",
             14,
             14,
-            ReplayKind::OtherReply,
+            OtherReply,
         ),
-        in_place(
+        (
             b"14 0 4 V3 ST 0.0 M O OK 1 KL:2:0.0.0:M:2",
             14,
             14,
-            ReplayKind::OtherReleased,
+            OtherReleased,
         ),
-        in_place(
+        (
             b"14 0 4 V3 ST 0.1 M O OK 0 KL:2:0.0.0:M:2",
             14,
             14,
-            ReplayKind::OtherAdvices,
+            OtherAdvices,
         ),
-        in_place(
+        (
             b"14 0 4 V3 ST 0.0 Y O OK 0 KL:2:0.0.0:M:2",
             14,
             14,
-            ReplayKind::OtherAdvices,
+            OtherAdvices,
         ),
-        in_place(
+        (
             b"14 0 4 V3 ST 0.0 M C OK 0 KL:2:0.0.0:M:2",
             14,
             14,
-            ReplayKind::OtherAdvices,
+            OtherAdvices,
         ),
-        in_place(
-            b"14 0 4 V3 ST 0.0 M O OK 0",
-            14,
-            14,
-            ReplayKind::OtherAdvices,
-        ),
-        in_place(
+        (b"14 0 4 V3 ST 0.0 M O OK 0", 14, 14, OtherAdvices),
+        (
             b"14 0 4 V3 ST 0.0 M O OK 0 KL:2:0.0.0:M:1",
             14,
             14,
-            ReplayKind::OtherAdvices,
+            OtherAdvices,
         ),
     ]
 }
 
 /// Line 13 is for a class that the leg lacks; line 15 closes all classes of the other leg, and line 19 opens them. What they leave out the
 /// lines behind them sell, or cannot.
-fn closed() -> [Spoilt; 9] {
-    [
-        in_place(b"13 0 3 V3 ST 0.0 Q C OK 0", 13, 13, ReplayKind::OtherReply),
-        in_place(b"13 0 3 V3 ST 0.0 M C NO 0", 13, 13, ReplayKind::OtherReply),
-        in_place(b"13 0 3 V3 ST 0.0 * C NO 0", 13, 13, ReplayKind::OtherReply),
-        in_place(b"15 0 5 V3 ST 1.1 * C OK 0", 15, 16, ReplayKind::OtherReply),
-        in_place(b"15 0 5 V3 ST 0.0 * C OK 0", 15, 16, ReplayKind::OtherReply),
-        in_place(b"15 0 5 V3 ST 0.1 * O OK 0", 15, 16, ReplayKind::OtherReply),
-        in_place(b"15 0 5 V3 ST 0.1 F C OK 0", 15, 17, ReplayKind::OtherReply),
-        in_place(b"19 0 6 V3 ST 0.1 * C OK 0", 19, 20, ReplayKind::OtherReply),
-        in_place(b"19 0 6 V3 ST 0.1 F O OK 0", 19, 20, ReplayKind::OtherReply),
+fn closed() -> &'static [Spoilt] {
+    &[
+        (b"13 0 3 V3 ST 0.0 Q C OK 0", 13, 13, OtherReply),
+        (b"13 0 3 V3 ST 0.0 M C NO 0", 13, 13, OtherReply),
+        (b"13 0 3 V3 ST 0.0 * C NO 0", 13, 13, OtherReply),
+        (b"15 0 5 V3 ST 1.1 * C OK 0", 15, 16, OtherReply),
+        (b"15 0 5 V3 ST 0.0 * C OK 0", 15, 16, OtherReply),
+        (b"15 0 5 V3 ST 0.1 * O OK 0", 15, 16, OtherReply),
+        (b"15 0 5 V3 ST 0.1 F C OK 0", 15, 17, OtherReply),
+        (b"19 0 6 V3 ST 0.1 * C OK 0", 19, 20, OtherReply),
+        (b"19 0 6 V3 ST 0.1 F O OK 0", 19, 20, OtherReply),
     ]
 }
 
 /// What is right too: all classes are opened where only M is closed, and only Y is sold behind an opening of all. (The kind counts for nothing.)
-fn right() -> [Spoilt; 2] {
-    [
-        in_place(
+fn right() -> &'static [Spoilt] {
+    &[
+        (
             b"14 0 4 V3 ST 0.0 * O OK 0 KL:2:0.0.0:M:2",
             14,
             0,
-            ReplayKind::BadNumber,
+            BadNumber,
         ),
-        in_place(b"19 0 6 V3 ST 0.1 Y O OK 0", 19, 0, ReplayKind::BadNumber),
+        (b"19 0 6 V3 ST 0.1 Y O OK 0", 19, 0, BadNumber),
     ]
 }
 
@@ -157,36 +140,52 @@ fn entry_of(alloc: Global, line: &[u8]) -> Result<Entry, Why> {
     }
 }
 
+/// The lines of the closings, one of them spoilt.
+fn spoilt(alloc: Global, whole: &[Entry], row: &Spoilt) -> Result<Vec<Entry>, Why> {
+    let mut lines = front(alloc, whole, 20)?;
+    let Some(line) = lines.get_mut(row.1.wrapping_sub(1)) else {
+        return Err("a line");
+    };
+    *line = entry_of(alloc, row.0)?;
+    Ok(lines)
+}
+
+fn try_spoilt<R: Threads + Sync>(
+    rt: &R,
+    alloc: Global,
+    limits: &Grid,
+    whole: &[Entry],
+    row: &Spoilt,
+) -> Result<(), Why> {
+    let lines = spoilt(alloc, whole, row)?;
+    let given = compare(rt, alloc, limits, 99, lines.as_slice())?;
+    if given.number == row.2 && (row.2 == 0 || given.kind == fault_at(row.3)) {
+        Ok(())
+    } else {
+        Err("the fault of a spoilt line")
+    }
+}
+
 fn try_each<R: Threads + Sync>(rt: &R, alloc: Global, rows: &[Spoilt]) -> Result<(), Why> {
     let limits = grid(alloc, two_legs(), same_ladders()).ok_or("a grid")?;
     let whole = entries(alloc, lines_of_closings())?;
     for row in rows {
-        let mut lines = front(alloc, whole.as_slice(), 20)?;
-        let Some(line) = lines.get_mut(row.at.wrapping_sub(1)) else {
-            return Err("a line");
-        };
-        *line = entry_of(alloc, row.line)?;
-        let given = compare(rt, alloc, &limits, 99, &lines)?;
-        let is_right = given.number == row.number
-            && (row.number == 0 || given.kind == fault_at(row.kind));
-        if !is_right {
-            return Err("the fault of a spoilt line");
-        }
+        try_spoilt(rt, alloc, &limits, whole.as_slice(), row)?;
     }
     Ok(())
 }
 
 #[test]
 fn spoilt_openings_are_found(rt: HostRuntime) -> Result<(), Fail> {
-    Ok(try_each(&rt, rt.alloc(), &opened())?)
+    Ok(try_each(&rt, rt.alloc(), opened())?)
 }
 
 #[test]
 fn spoilt_closes_are_found(rt: HostRuntime) -> Result<(), Fail> {
-    Ok(try_each(&rt, rt.alloc(), &closed())?)
+    Ok(try_each(&rt, rt.alloc(), closed())?)
 }
 
 #[test]
 fn right_lines_have_no_fault(rt: HostRuntime) -> Result<(), Fail> {
-    Ok(try_each(&rt, rt.alloc(), &right())?)
+    Ok(try_each(&rt, rt.alloc(), right())?)
 }

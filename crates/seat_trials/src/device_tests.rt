@@ -9,20 +9,17 @@ use std::test::Fail;
 
 const TEXT: [u8; 5] = *b"EFGHI";
 
-/// Reads the text byte by byte from a device that fails at this read: the fault, if any, and the failures counted.
-fn reads(rt: &impl Abort, alloc: Global, fails_at: u64, max: u64) -> (Option<ReadFault>, u64) {
-    let mut input = Counted::new(FailingReader::new(TEXT.as_slice(), 1, fails_at));
-    let fault = match read_all(alloc, &mut input, max) {
-        Ok(bytes) => {
-            assert!(rt;
-                bytes.as_slice() == TEXT.as_slice(),
-                "failing at {fails_at}"
-            );
-            None
-        }
-        Err(fault) => Some(fault),
-    };
-    (fault, input.failures())
+/// Whether reading the text byte by byte from a device that fails at this read has this fault, or gives the text.
+fn reads(
+    alloc: Global,
+    input: &mut Counted<FailingReader<'_>>,
+    max: u64,
+    want: Option<ReadFault>,
+) -> bool {
+    match read_all(alloc, input, max) {
+        Ok(bytes) => want.is_none() && bytes.as_slice() == TEXT.as_slice(),
+        Err(fault) => want == Some(fault),
+    }
 }
 
 #[test]
@@ -36,28 +33,33 @@ fn reads_until_the_end(rt: HostRuntime) {
         (5, 9, Some(ReadFault::Device), 1),
     ];
     for (fails_at, max, want, failures) in rows {
-        let (fault, found) = reads(&rt, rt.alloc(), fails_at, max);
-        assert!(rt; fault == want, "at most {max}, failing at {fails_at}");
-        assert!(rt; found == failures, "at most {max}, failing at {fails_at}");
+        let mut input = Counted::new(FailingReader::new(TEXT.as_slice(), 1, fails_at));
+        let is_right = reads(rt.alloc(), &mut input, max, want) && input.failures() == failures;
+        assert!(rt; is_right, "at most {max}, failing at {fails_at}");
+    }
+}
+
+/// How many of these bytes are read, where there may be so many at most.
+fn len_of(alloc: Global, bytes: &[u8], max: u64) -> Result<usize, ReadFault> {
+    let mut input = Counted::new(bytes);
+    match read_all(alloc, &mut input, max) {
+        Ok(bytes) => Ok(bytes.len()),
+        Err(fault) => Err(fault),
     }
 }
 
 #[test]
 fn reads_more_than_a_piece(rt: HostRuntime) {
     let long = [b'Z'; 10_000];
-    let mut input = Counted::new(long.as_slice());
-    assert!(rt; read_all(rt.alloc(), &mut input, 9_999) == Err(ReadFault::TooLarge));
-    let mut input = Counted::new(long.as_slice());
-    assert!(rt; read_all(rt.alloc(), &mut input, 10_000).map(|bytes| bytes.len()) == Ok(10_000));
+    assert!(rt; len_of(rt.alloc(), &long, 9_999) == Err(ReadFault::TooLarge));
+    assert!(rt; len_of(rt.alloc(), &long, 10_000) == Ok(10_000));
 }
 
 #[test]
 fn reads_a_data_set_of_600_bytes(rt: HostRuntime) -> Result<(), Fail> {
     let set = records(rt.alloc(), no_legs()).ok_or("a set")?;
-    let mut input = Counted::new(set.as_slice());
-    assert!(rt; read_all(rt.alloc(), &mut input, 599) == Err(ReadFault::TooLarge));
-    let mut input = Counted::new(set.as_slice());
-    assert!(rt; read_all(rt.alloc(), &mut input, 600).map(|bytes| bytes.len()) == Ok(600));
+    assert!(rt; len_of(rt.alloc(), set.as_slice(), 599) == Err(ReadFault::TooLarge));
+    assert!(rt; len_of(rt.alloc(), set.as_slice(), 600) == Ok(600));
     Ok(())
 }
 
@@ -66,19 +68,23 @@ fn writes(rt: &impl Abort, alloc: Global, stop: Stop, left: usize) {
     let inner = FailingWriter::new(Vec::new(alloc), 1, left as u64, stop);
     let mut out = Counted::new(inner);
     let whole = left >= TEXT.len();
-    assert!(rt; put_all(&mut out, &TEXT).is_ok() == whole, "after {left}");
-    let before = if whole { 0 } else { 1 };
-    assert!(rt; out.failures() == before, "failures after {left}");
+    assert!(rt; puts(&mut out, whole), "after {left}");
     let fails = stop == Stop::Fails && left <= TEXT.len();
-    assert!(rt; out.flush().is_err() == fails, "a flush after {left}");
-    let behind = if fails { before + 1 } else { before };
-    assert!(rt;
-        out.failures() == behind,
-        "failures after {left} and a flush"
-    );
+    assert!(rt; flushes(&mut out, fails), "a flush after {left}");
     let taken = out.into_inner().into_inner();
     let front = TEXT.get(..left).unwrap_or(&TEXT);
     assert!(rt; taken.as_slice() == front, "taken after {left}");
+}
+
+/// Whether the whole text is taken, or a failure is counted.
+fn puts(out: &mut Counted<FailingWriter>, whole: bool) -> bool {
+    put_all(out, &TEXT).is_ok() == whole && out.failures() == u64::from(!whole)
+}
+
+/// Whether a flush fails and is counted, or neither.
+fn flushes(out: &mut Counted<FailingWriter>, fails: bool) -> bool {
+    let before = out.failures();
+    out.flush().is_err() == fails && out.failures() == before.saturating_add(u64::from(fails))
 }
 
 #[test]
@@ -92,8 +98,7 @@ fn writes_all_or_a_front(rt: HostRuntime) {
 #[test]
 fn writes_nothing_and_all(rt: HostRuntime) -> Result<(), Fail> {
     let mut out = Counted::new(Vec::new(rt.alloc()));
-    assert!(rt; put_all(&mut out, b"").is_ok());
-    assert!(rt; put_all(&mut out, &TEXT).is_ok());
+    assert!(rt; put_all(&mut out, b"").is_ok() && put_all(&mut out, &TEXT).is_ok());
     assert!(rt; out.into_inner().as_slice() == TEXT.as_slice());
     Ok(())
 }

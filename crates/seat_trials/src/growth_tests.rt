@@ -5,7 +5,7 @@ use crate::trial::{Trial, Why, are_same, entries, is_memory, is_same, is_text, p
 use crate::worked_set::{grid, two_legs};
 use airline_base::Class;
 use seat_journal::Entry;
-use seat_nesting::{Counts, Grid};
+use seat_nesting::{Counts, Grid, Step};
 use std::alloc::Global;
 use std::test::Fail;
 
@@ -171,12 +171,18 @@ fn copy_again(alloc: Global, entry: &Entry) -> Result<Entry, Why> {
 /// Copies each entry, which stays as it is.
 fn copy_all(alloc: Global, all: &[Entry]) -> Result<(), Why> {
     for entry in all {
-        let copy = copy_again(alloc, entry)?;
-        if !are_same(&copy, entry) {
+        if !is_copied(alloc, entry) {
             return Err("a copy of a line");
         }
     }
     Ok(())
+}
+
+fn is_copied(alloc: Global, entry: &Entry) -> bool {
+    match copy_again(alloc, entry) {
+        Ok(copy) => are_same(&copy, entry),
+        Err(_) => false,
+    }
 }
 
 fn copy_lines(alloc: Global) -> Result<(), Why> {
@@ -206,15 +212,16 @@ fn copy_of(alloc: Global, grid: &Grid) -> Result<Grid, Why> {
 
 /// Compares the ladders of two grids on the legs of flights 0 and 1.
 fn same_limits(one: &Grid, other: &Grid) -> Result<(), Why> {
-    for flight in 0..2u32 {
-        for leg in 0..2u8 {
-            let steps = one.steps(flight, leg);
-            if steps.len() != 3 || steps != other.steps(flight, leg) {
-                return Err("the ladder of a leg");
-            }
+    for (flight, leg) in [(0, 0), (0, 1), (1, 0), (1, 1)] {
+        if !are_three(one.steps(flight, leg), other.steps(flight, leg)) {
+            return Err("the ladder of a leg");
         }
     }
     Ok(())
+}
+
+fn are_three(one: &[Step], other: &[Step]) -> bool {
+    one.len() == 3 && one == other
 }
 
 fn copy_grid(alloc: Global) -> Result<(), Why> {

@@ -139,22 +139,26 @@ fn told(alloc: Global, text: &[u8]) -> Result<Trial, Why> {
 }
 
 fn have_rooms(trial: &Trial, rows: &[Rooms]) -> Result<(), Why> {
-    for (legs, [f, y, m, q]) in rows.iter() {
-        let place = place_of(*legs);
-        let is_right = trial.has_room(place, b'F', *f)
-            && trial.has_room(place, b'Y', *y)
-            && trial.has_room(place, b'M', *m)
-            && trial.has_room(place, b'Q', *q);
-        if !is_right {
+    for row in rows {
+        if !has_rooms(trial, row) {
             return Err("the room of a place");
         }
     }
     Ok(())
 }
 
+fn has_rooms(trial: &Trial, row: &Rooms) -> bool {
+    let (legs, [f, y, m, q]) = *row;
+    let place = place_of(legs);
+    trial.has_room(place, b'F', f)
+        && trial.has_room(place, b'Y', y)
+        && trial.has_room(place, b'M', m)
+        && trial.has_room(place, b'Q', q)
+}
+
 fn have_held(trial: &Trial, rows: &[Held]) -> Result<(), Why> {
-    for (legs, letter, seats) in rows.iter() {
-        if !trial.has_held(*legs, *letter, *seats) {
+    for row in rows {
+        if !trial.has_held(row.0, row.1, row.2) {
             return Err("the held seats");
         }
     }
@@ -162,8 +166,8 @@ fn have_held(trial: &Trial, rows: &[Held]) -> Result<(), Why> {
 }
 
 fn have_limits(trial: &Trial, rows: &[Limits]) -> Result<(), Why> {
-    for (flight, leg, steps) in rows.iter() {
-        if !trial.has_limits(*flight, *leg, steps) {
+    for row in rows {
+        if !trial.has_limits(row.0, row.1, row.2) {
             return Err("the limits of a leg");
         }
     }

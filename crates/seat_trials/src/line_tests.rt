@@ -11,18 +11,26 @@ fn read(line: &[u8]) -> Option<Result<Segment, LineFault>> {
     Some(read_segment(line, today))
 }
 
-#[test]
-fn leap_day_eight_years_ahead(rt: HostRuntime) {
-    match read(b"XX123Y29FEB LHRJFK NN2") {
-        Some(Ok(said)) => assert!(rt; said.day.parts() == (2104, 2, 29)),
-        _ => assert!(rt; false, "29 February is refused"),
+fn is_on(line: &[u8], year: u16, month: u8, day: u8) -> bool {
+    match read(line) {
+        Some(Ok(said)) => said.day.parts() == (year, month, day),
+        _ => false,
+    }
+}
+
+fn is_refused(line: &[u8], wanted: LineFault) -> bool {
+    match read(line) {
+        Some(Err(fault)) => fault == wanted,
+        _ => false,
     }
 }
 
 #[test]
+fn leap_day_eight_years_ahead(rt: HostRuntime) {
+    assert!(rt; is_on(b"XX123Y29FEB LHRJFK NN2", 2104, 2, 29));
+}
+
+#[test]
 fn line_without_bytes(rt: HostRuntime) {
-    match read(b"") {
-        Some(Err(fault)) => assert!(rt; fault == LineFault::Length),
-        _ => assert!(rt; false, "no bytes are a line"),
-    }
+    assert!(rt; is_refused(b"", LineFault::Length));
 }

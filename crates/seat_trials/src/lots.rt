@@ -81,10 +81,12 @@ impl Lots {
     fn request(&mut self) -> Option<Command> {
         let codes: [&[u8]; 8] = [b"NN", b"SS", b"SS", b"SS", b"LL", b"LL", b"XX", b"ZZ"];
         let code = self.pick(&codes)?;
+        let locator = self.locator()?;
+        let place = self.place();
         Some(Command {
-            locator: self.locator()?,
-            place: self.place(),
-            class: Class::new(self.pick(b"FFYYYYMMMQ")?)?,
+            locator,
+            place,
+            class: self.class(b"FFYYYYMMMQ")?,
             code: Code::new(code)?,
             seats: self.seats(code),
         })
@@ -92,19 +94,28 @@ impl Lots {
 
     /// The cancellation of a live booking, of half of them whole and of one in ten of too many seats.
     fn cancellation(&mut self, bookings: &[Live]) -> Option<Command> {
-        let b = self.pick(bookings)?;
-        let seats = match self.below(10) {
-            0 => b.seats.saturating_add(1),
-            1..=5 => b.seats,
-            _ => self.below(u32::from(b.seats).max(1)) as u16 + 1,
+        let Some(b) = self.pick(bookings) else {
+            return None;
+        };
+        let seats = self.seats_of(b.seats);
+        let Some(code) = Code::new(b"XX") else {
+            return None;
         };
         Some(Command {
             locator: b.locator,
             place: Some(b.place),
             class: b.class,
-            code: Code::new(b"XX")?,
+            code,
             seats,
         })
+    }
+
+    fn seats_of(&mut self, seats: u16) -> u16 {
+        match self.below(10) {
+            0 => seats.saturating_add(1),
+            1..=5 => seats,
+            _ => self.below(u32::from(seats).max(1)) as u16 + 1,
+        }
     }
 
     /// The next command: one of six cancels a booking, while there is one.
@@ -120,39 +131,65 @@ impl Lots {
     /// Another limit of a class on a leg: mostly near what it may be, now and then the most or the least.
     fn change(&mut self) -> Option<Change> {
         let flight = self.below(4);
-        let legs: u32 = if flight < 2 { 2 } else { 3 };
         let limit = match self.below(20) {
             0 => 999,
             1 => 0,
             _ => self.below(16) as u16,
         };
+        let leg = self.leg_of(flight);
+        let Some(class) = self.class(b"FYYMMQ") else {
+            return None;
+        };
         Some(Change {
             flight,
-            leg: self.below(legs) as u8,
-            class: Class::new(self.pick(b"FYYMMQ")?)?,
+            leg,
+            class,
             limit,
             wait: self.below(26) as u16,
         })
     }
 
+    /// One of the legs of a flight.
+    fn leg_of(&mut self, flight: u32) -> u8 {
+        let legs: u32 = if flight < 2 { 2 } else { 3 };
+        self.below(legs) as u8
+    }
+
+    /// The class of one of these letters.
+    fn class(&mut self, letters: &[u8]) -> Option<Class> {
+        match self.pick(letters) {
+            Some(letter) => Class::new(letter),
+            None => None,
+        }
+    }
+
+    /// A class, or in one case of four all.
+    fn class_or_all(&mut self) -> Option<Option<Class>> {
+        if self.below(4) == 0 {
+            return Some(None);
+        }
+        match self.class(b"FYYMMQ") {
+            Some(class) => Some(Some(class)),
+            None => None,
+        }
+    }
+
     /// A class of a leg, or all, to be closed or, mostly, opened.
     fn sale(&mut self) -> Option<SaleChange> {
         let flight = self.below(4);
-        let legs: u32 = if flight < 2 { 2 } else { 3 };
-        let class = match self.below(4) {
-            0 => None,
-            _ => Some(Class::new(self.pick(b"FYYMMQ")?)?),
+        let Some(class) = self.class_or_all() else {
+            return None;
         };
         Some(SaleChange {
             flight,
-            leg: self.below(legs) as u8,
+            leg: self.leg_of(flight),
             class,
             closed: self.below(6) == 0,
         })
     }
 
     /// The next line: one of eight changes a limit, and one of twelve others closes or opens a class, for session 0.
-    pub fn work(&mut self, bookings: &[Live]) -> Option<Work> {
+    fn work(&mut self, bookings: &[Live]) -> Option<Work> {
         if self.below(8) == 0 {
             return Some(Work::Limit(self.change()?));
         }
@@ -160,5 +197,16 @@ impl Lots {
             return Some(Work::Sale(self.sale()?));
         }
         Some(Work::Seats(self.command(bookings)?))
+    }
+
+    /// The next line, and who asks for it.
+    pub fn asked(&mut self, bookings: &[Live]) -> Option<(u8, Work)> {
+        let work = self.work(bookings)?;
+        let session = match work {
+            Work::Seats(_) => self.below(8) as u8 + 1,
+            Work::Limit(_) => 0,
+            Work::Sale(_) => 0,
+        };
+        Some((session, work))
     }
 }

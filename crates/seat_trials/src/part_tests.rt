@@ -5,9 +5,9 @@ ghost use Rattle.std.specs.Prelude.{◌≡◌, [], IfOk};
 use crate::lots::Lots;
 use crate::plain::Plain;
 use crate::side_tests::{limits, same_limits};
-use crate::trial::{Trial, Why, all_numbers};
+use crate::trial::{Shown, Trial, Why, look_at, place_of};
 use crate::worked_set::{grid, three_legs};
-use airline_base::{Class, Place};
+use airline_base::Class;
 use seat_core::{Core, replay};
 use seat_journal::{Advice, Advices, Entry, Work};
 use seat_nesting::Grid;
@@ -30,32 +30,39 @@ fn history(alloc: Global, grid: Grid) -> Result<Trial, Why> {
     let mut trial = Trial::new(alloc, grid, LINES)?;
     let mut lots = Lots::new(40);
     for _ in 0..LINES {
-        let work = lots.work(plain.bookings()).ok_or("a line")?;
-        let session = match work {
-            Work::Seats(_) => lots.below(8) as u8 + 1,
-            Work::Limit(_) => 0,
-            Work::Sale(_) => 0,
-        };
-        let _ = trial.step(session, work)?;
-        if plain.answer(&work).is_err() {
-            return Err("memory");
-        }
+        draw_line(&mut plain, &mut trial, &mut lots)?;
     }
     Ok(trial)
+}
+
+fn draw_line(plain: &mut Plain, trial: &mut Trial, lots: &mut Lots) -> Result<(), Why> {
+    let Some((session, work)) = lots.asked(plain.bookings()) else {
+        return Err("a line");
+    };
+    let _ = trial.step(session, work)?;
+    match plain.answer(&work) {
+        Ok(_) => Ok(()),
+        Err(_) => Err("memory"),
+    }
 }
 
 /// The first lines.
 pub fn front(alloc: Global, lines: &[Entry], count: usize) -> Result<Vec<Entry>, Why> {
     let mut front = Vec::new(alloc);
-    for line in lines.iter().take(count) {
-        let Ok(copy) = line.copy(alloc) else {
-            return Err("memory");
-        };
-        if front.push(copy).is_err() {
-            return Err("memory");
-        }
+    for line in lines.get(..count).unwrap_or(lines) {
+        add_copy(alloc, &mut front, line)?;
     }
     Ok(front)
+}
+
+fn add_copy(alloc: Global, front: &mut Vec<Entry>, line: &Entry) -> Result<(), Why> {
+    let Ok(copy) = line.copy(alloc) else {
+        return Err("memory");
+    };
+    match front.push(copy) {
+        Ok(()) => Ok(()),
+        Err(_) => Err("memory"),
+    }
 }
 
 /// A request for no seats, or a change of a flight that is not there.
@@ -80,14 +87,20 @@ fn misfit(work: Work) -> Work {
 }
 
 /// Turns a field of an entry into that of another, or near it.
-fn turn(lots: &mut Lots, entry: &mut Entry, other: Entry) {
+fn turn(lots: &mut Lots, entry: &mut Entry, other: &Entry) {
     match lots.below(12) {
         0 => entry.number = other.number,
         1 => entry.session = lots.below(11) as u8,
         2 => entry.call = other.call,
         3 => entry.call = entry.call.wrapping_sub(1),
+        field => turn_rest(field, entry, other),
+    }
+}
+
+/// The fields behind the call.
+fn turn_rest(field: u32, entry: &mut Entry, other: &Entry) {
+    match field {
         4 => entry.work = other.work,
-        5 => entry.reply = other.reply,
         6 => entry.released = entry.released.wrapping_add(1),
         7 => entry.released = other.released,
         8 | 9 | 10 => entry.work = misfit(entry.work),
@@ -97,25 +110,28 @@ fn turn(lots: &mut Lots, entry: &mut Entry, other: Entry) {
 
 /// One advice of a booking of this number, of every third none.
 fn told(alloc: Global, number: u32) -> Result<Advices, Why> {
-    let place = Place {
-        flight: 0,
-        from: 0,
-        to: 0,
-    };
     let mut advices = Advices::new(alloc);
     if number % 3 == 0 {
         return Ok(advices);
     }
-    let class = Class::new(b'Y').ok_or("a class")?;
-    let advice = Advice {
-        number,
-        place,
-        class,
-        seats: 1,
+    let Some(advice) = advice(number) else {
+        return Err("a class");
     };
     match advices.push(advice) {
         Ok(()) => Ok(advices),
         Err(_) => Err("memory"),
+    }
+}
+
+fn advice(number: u32) -> Option<Advice> {
+    match Class::new(b'Y') {
+        Some(class) => Some(Advice {
+            number,
+            place: place_of((0, 0, 0)),
+            class,
+            seats: 1,
+        }),
+        None => None,
     }
 }
 
@@ -129,30 +145,48 @@ fn spoil(alloc: Global, lots: &mut Lots, lines: &mut Vec<Entry>) -> Result<(), W
     }
     let at = lots.below(count) as usize;
     let other = lots.below(count) as usize;
+    if at >= lines.len() || other >= lines.len() {
+        return Ok(());
+    }
     match lots.below(12) {
         0 => {
-            if at < lines.len() {
-                let _ = lines.remove(at);
-            }
+            let _ = lines.remove(at);
+            Ok(())
         }
         1 => {
-            if at < lines.len() && other < lines.len() {
-                lines.swap(at, other);
-            }
+            lines.swap(at, other);
+            Ok(())
         }
-        2 => {
-            if let Some(entry) = lines.get_mut(at) {
-                entry.advices = told(alloc, other as u32)?;
-            }
-        }
-        _ => {
-            let Some(Ok(other)) = lines.get(other).map(|line| line.copy(alloc)) else {
-                return Err("memory");
-            };
-            if let Some(entry) = lines.get_mut(at) {
-                turn(lots, entry, other);
-            }
-        }
+        2 => tell(alloc, lines, at, other as u32),
+        _ => turn_into(alloc, lots, lines, at, other),
+    }
+}
+
+/// Gives an entry other advices.
+fn tell(alloc: Global, lines: &mut Vec<Entry>, at: usize, number: u32) -> Result<(), Why> {
+    if let Some(entry) = lines.get_mut(at) {
+        entry.advices = told(alloc, number)?;
+    }
+    Ok(())
+}
+
+/// Turns a field of an entry into that of another.
+fn turn_into(
+    alloc: Global,
+    lots: &mut Lots,
+    lines: &mut Vec<Entry>,
+    at: usize,
+    other: usize,
+) -> Result<(), Why> {
+    let copy = match lines.get(other) {
+        Some(line) => line.copy(alloc),
+        None => return Ok(()),
+    };
+    let Ok(copy) = copy else {
+        return Err("memory");
+    };
+    if let Some(entry) = lines.get_mut(at) {
+        turn(lots, entry, &copy);
     }
     Ok(())
 }
@@ -162,22 +196,27 @@ fn spoil(alloc: Global, lots: &mut Lots, lines: &mut Vec<Entry>) -> Result<(), W
 pub struct Given {
     pub number: u32,
     pub kind: usize,
-    shown: [u64; 18],
+    shown: Shown,
 }
+
+const NOTHING: Shown = Shown {
+    digest: 0,
+    numbers: [0; 17],
+};
 
 fn outcome_of(replayed: Result<Core, ReplayFault>) -> Result<Given, Why> {
     match replayed {
         Ok(core) => Ok(Given {
             number: 0,
             kind: 0,
-            shown: all_numbers(&core),
+            shown: look_at(&core),
         }),
         Err(fault) => match fault.kind {
             ReplayKind::Memory => Err("memory"),
             _ => Ok(Given {
                 number: fault.number,
                 kind: fault_at(fault.kind),
-                shown: [0; 18],
+                shown: NOTHING,
             }),
         },
     }
@@ -187,10 +226,10 @@ fn outcome_of(replayed: Result<Core, ReplayFault>) -> Result<Given, Why> {
 fn outcome_of_audit(audited: Result<Totals, ReplayFault>) -> Result<Given, Why> {
     match audited {
         Ok(totals) => {
-            let mut shown = [0u64; 18];
-            shown[0] = u64::from(totals.lines);
-            shown[1] = totals.confirmed;
-            shown[2] = totals.released;
+            let mut shown = NOTHING;
+            shown.numbers[0] = u64::from(totals.lines);
+            shown.numbers[1] = totals.confirmed;
+            shown.numbers[2] = totals.released;
             Ok(Given {
                 number: 0,
                 kind: 0,
@@ -232,28 +271,59 @@ pub fn compare<R: Threads + Sync>(
     lines: &[Entry],
 ) -> Result<Given, Why> {
     let want = outcome_of(replay(alloc, opened(alloc, limits, cap)?, lines))?;
-    let found = outcome_of(replay_by_flight(alloc, opened(alloc, limits, cap)?, lines))?;
-    if found != want {
+    if by_flight(alloc, limits, cap, lines)? != want {
         return Err("by flight");
     }
-    let told = outcome_of_audit(totals_of(replay(alloc, opened(alloc, limits, cap)?, lines)))?;
-    let processors = match available_parallelism(rt) {
-        Ok(count) => count.get(),
-        Err(_) => 1,
-    };
-    for parts in [0, 1, 2, 3, processors.saturating_add(3)] {
-        let core = opened(alloc, limits, cap)?;
-        let found = outcome_of(replay_in_parts(rt, alloc, core, lines, parts))?;
-        if found != want {
+    let told = audited(alloc, limits, cap, lines)?;
+    for parts in [0, 1, 2, 3, processors(rt).saturating_add(3)] {
+        if in_parts(rt, alloc, limits, cap, lines, parts)? != want {
             return Err("in parts");
         }
-        let core = opened(alloc, limits, cap)?;
-        let found = outcome_of_audit(audit_in_parts(rt, alloc, core, lines, parts))?;
-        if found != told {
+        if audited_in_parts(rt, alloc, limits, cap, lines, parts)? != told {
             return Err("an audit in parts");
         }
     }
     Ok(want)
+}
+
+fn by_flight(alloc: Global, limits: &Grid, cap: u32, lines: &[Entry]) -> Result<Given, Why> {
+    outcome_of(replay_by_flight(alloc, opened(alloc, limits, cap)?, lines))
+}
+
+/// What an audit is to give.
+fn audited(alloc: Global, limits: &Grid, cap: u32, lines: &[Entry]) -> Result<Given, Why> {
+    outcome_of_audit(totals_of(replay(alloc, opened(alloc, limits, cap)?, lines)))
+}
+
+fn processors<R: Threads>(rt: &R) -> usize {
+    match available_parallelism(rt) {
+        Ok(count) => count.get(),
+        Err(_) => 1,
+    }
+}
+
+fn in_parts<R: Threads + Sync>(
+    rt: &R,
+    alloc: Global,
+    limits: &Grid,
+    cap: u32,
+    lines: &[Entry],
+    parts: usize,
+) -> Result<Given, Why> {
+    let core = opened(alloc, limits, cap)?;
+    outcome_of(replay_in_parts(rt, alloc, core, lines, parts))
+}
+
+fn audited_in_parts<R: Threads + Sync>(
+    rt: &R,
+    alloc: Global,
+    limits: &Grid,
+    cap: u32,
+    lines: &[Entry],
+    parts: usize,
+) -> Result<Given, Why> {
+    let core = opened(alloc, limits, cap)?;
+    outcome_of_audit(audit_in_parts(rt, alloc, core, lines, parts))
 }
 
 /// How often a journal was legal, and how often each fault came.
@@ -313,20 +383,32 @@ fn try_one<R: Threads + Sync>(
     compare(rt, alloc, limits, cap, &lines)
 }
 
-fn replay_each_way<R: Threads + Sync>(rt: &R, alloc: Global) -> Result<(), Why> {
-    let grid = grid(alloc, three_legs(), limits()).ok_or("a grid")?;
-    let Ok(copy) = grid.copy(alloc) else {
-        return Err("memory");
-    };
-    let trial = history(alloc, copy)?;
+fn try_all<R: Threads + Sync>(
+    rt: &R,
+    alloc: Global,
+    limits: &Grid,
+    history: &[Entry],
+) -> Result<Tally, Why> {
     let mut lots = Lots::new(41);
     let mut tally = Tally {
         legal: 0,
         faults: [0; 6],
     };
     for _ in 0..JOURNALS {
-        tally.count(try_one(rt, alloc, &grid, &mut lots, trial.journal())?);
+        tally.count(try_one(rt, alloc, limits, &mut lots, history)?);
     }
+    Ok(tally)
+}
+
+fn replay_each_way<R: Threads + Sync>(rt: &R, alloc: Global) -> Result<(), Why> {
+    let Some(grid) = grid(alloc, three_legs(), limits()) else {
+        return Err("a grid");
+    };
+    let Ok(copy) = grid.copy(alloc) else {
+        return Err("memory");
+    };
+    let trial = history(alloc, copy)?;
+    let tally = try_all(rt, alloc, &grid, trial.journal())?;
     if tally.has_all() {
         Ok(())
     } else {

@@ -30,21 +30,30 @@ fn leaves_the_old_or_the_new(rt: HostRuntime) -> Result<(), Fail> {
     ];
     for (calls, goes_back, left) in rows {
         let mut fused = Fuse::new(folder(rt.alloc())?, calls);
-        let is_whole = replace_whole(&mut fused, &NEW, true).is_ok();
-        assert!(rt; is_whole == (calls == 6), "Ok after {calls}");
-        let failures = if is_whole { 0 } else { 1 };
-        assert!(rt; fused.failures() == failures, "failures after {calls}");
+        assert!(rt;
+            is_replaced(&mut fused, calls == 6),
+            "Ok and failures after {calls}"
+        );
         let mut file = fused.into_inner();
         file.crash(goes_back, b"torn");
         assert!(rt; file.bytes() == left, "left after {calls}");
-        let kept = if calls >= 4 { 1 } else { 0 };
-        assert!(rt; file.kept_count() == kept, "kept after {calls}");
-        assert!(rt;
-            kept == 0 || file.kept_bytes(0) == Some(OLD.as_slice()),
-            "what is kept after {calls}"
-        );
+        assert!(rt; keeps(&file, &OLD, calls >= 4), "kept after {calls}");
     }
     Ok(())
+}
+
+/// Whether it is replaced, or a failure is counted.
+fn is_replaced(fused: &mut Fuse<Folder>, is_whole: bool) -> bool {
+    replace_whole(fused, &NEW, true).is_ok() == is_whole && fused.failures() == u64::from(!is_whole)
+}
+
+/// Whether a folder keeps one file, of these bytes, or none.
+pub fn keeps(folder: &Folder, bytes: &[u8], is_kept: bool) -> bool {
+    if is_kept {
+        folder.kept_count() == 1 && folder.kept_bytes(0) == Some(bytes)
+    } else {
+        folder.kept_count() == 0
+    }
 }
 
 #[test]
@@ -55,6 +64,10 @@ fn keeps_nothing_unasked(rt: HostRuntime) -> Result<(), Fail> {
     assert!(rt; file.bytes() == NEW.as_slice());
     assert!(rt; file.kept_count() == 0);
     Ok(())
+}
+
+fn is_renamed(file: &mut Folder) -> bool {
+    file.begin().is_ok() && file.append(&NEW).is_ok() && file.rename().is_ok()
 }
 
 // What was not synced is torn, whole as it may look before the crash.
@@ -68,10 +81,7 @@ fn tears_a_file_that_was_not_synced(rt: HostRuntime) -> Result<(), Fail> {
     ];
     for (goes_back, torn, left) in rows {
         let mut file = folder(rt.alloc())?;
-        file.begin()?;
-        file.append(&NEW)?;
-        file.rename()?;
-        assert!(rt; file.bytes() == NEW.as_slice());
+        assert!(rt; is_renamed(&mut file) && file.bytes() == NEW.as_slice());
         file.crash(goes_back, torn);
         assert!(rt; file.bytes() == left);
     }
@@ -84,10 +94,8 @@ fn begins_behind_a_killed_replacement(rt: HostRuntime) -> Result<(), Fail> {
     assert!(rt; replace_whole(&mut fused, b"half of it", false).is_err());
     let mut file = fused.into_inner();
     file.crash(true, b"");
-    assert!(rt; replace_whole(&mut file, &NEW, false).is_ok());
-    assert!(rt; file.bytes() == NEW.as_slice());
-    assert!(rt; file.rename().is_err());
-    assert!(rt; file.failures() == 1);
+    assert!(rt; replace_whole(&mut file, &NEW, false).is_ok() && file.bytes() == NEW.as_slice());
+    assert!(rt; file.rename().is_err() && file.failures() == 1);
     Ok(())
 }
 

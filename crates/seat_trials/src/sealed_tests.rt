@@ -3,6 +3,7 @@ ghost use Rattle.std.specs.Prelude.{◌≡◌, IsTrue};
 ghost use Rattle.seat_seal.specs.Imprints.{imprint_of};
 ghost use Rattle.seat_seal.specs.Fronts.{front_of};
 
+use crate::replaced_tests::keeps;
 use airline_base::Failures;
 use seat_disk::{Folder, Fuse};
 use seat_seal::{
@@ -160,85 +161,80 @@ fn seal_left(alloc: Global, row: &Row, crash: Crash) -> Result<Vec<u8>, AllocErr
     Ok(text)
 }
 
+fn fused(alloc: Global, bytes: &[u8], calls: u64) -> Result<Fuse<Folder>, AllocError> {
+    let bytes = Vec::from_slice(alloc, bytes)?;
+    Ok(Fuse::new(Folder::over(alloc, bytes), calls))
+}
+
+fn crashed(fused: Fuse<Folder>, goes_back: bool) -> Folder {
+    let mut folder = fused.into_inner();
+    folder.crash(goes_back, b"torn");
+    folder
+}
+
+/// Whether the new journal is there, and its seal.
+fn is_replaced<R: Abort>(
+    rt: &R,
+    row: &Row,
+    journal: &mut Fuse<Folder>,
+    seal: &mut Fuse<Folder>,
+) -> bool {
+    let older = known(row.seal, row.journal);
+    let newer = sealed(NEW, 2, 20, b"tuesday");
+    assert!(rt; may_be_sealed(&older, &newer), "a seal may name both");
+    replace_sealed(journal, seal, older, newer, NEW, true).is_ok()
+}
+
 fn replace_and_crash<R: Abort>(
     rt: &R,
     alloc: Global,
     row: &Row,
     crash: Crash,
-) -> Result<(Folder, Folder), Fail> {
-    let mut journal = Fuse::new(
-        Folder::over(alloc, Vec::from_slice(alloc, row.journal)?),
-        journal_calls(crash.calls),
-    );
-    let mut seal = Fuse::new(
-        Folder::over(alloc, Vec::from_slice(alloc, row.seal)?),
-        seal_calls(crash.calls),
-    );
-    let older = known(row.seal, row.journal);
-    let newer = sealed(NEW, 2, 20, b"tuesday");
-    assert!(rt; may_be_sealed(&older, &newer), "a seal may name both");
-    let is_whole = replace_sealed(&mut journal, &mut seal, older, newer, NEW, true).is_ok();
-    assert!(rt;
-        is_whole == (crash.calls == 17),
-        "Ok behind {}",
-        crash.calls
-    );
+) -> Result<(Folder, Folder), AllocError> {
+    let calls = crash.calls;
+    let mut journal = fused(alloc, row.journal, journal_calls(calls))?;
+    let mut seal = fused(alloc, row.seal, seal_calls(calls))?;
+    let is_whole = is_replaced(rt, row, &mut journal, &mut seal);
+    assert!(rt; is_whole == (calls == 17), "Ok behind {calls}");
     let failures = journal.failures().saturating_add(seal.failures());
-    assert!(rt;
-        failures == if is_whole { 0 } else { 1 },
-        "failures behind {}",
-        crash.calls
-    );
-    let mut journal = journal.into_inner();
-    journal.crash(crash.journal_back, b"torn");
-    let mut seal = seal.into_inner();
-    seal.crash(crash.seal_back, b"torn");
-    Ok((journal, seal))
+    assert!(rt; failures == u64::from(!is_whole), "failures behind {calls}");
+    Ok((
+        crashed(journal, crash.journal_back),
+        crashed(seal, crash.seal_back),
+    ))
 }
 
-fn try_crash<R: Abort>(rt: &R, alloc: Global, row: &Row, crash: Crash) -> Result<(), Fail> {
+/// Whether a reader finds the journal sealed. Only one that had no seal is left without one, as it was.
+fn is_sealed(row: &Row, journal: &Folder, seal: &Folder) -> bool {
+    let has_none = seal.bytes().is_empty() && journal.bytes() == row.journal && row.seal.is_empty();
+    is_found(seal.bytes(), journal.bytes()) != has_none
+}
+
+fn try_crash<R: Abort>(rt: &R, alloc: Global, row: &Row, crash: Crash) -> Result<(), AllocError> {
+    let calls = crash.calls;
     let (journal, seal) = replace_and_crash(rt, alloc, row, crash)?;
     let wanted = seal_left(alloc, row, crash)?;
     assert!(rt;
         journal.bytes() == journal_left(row, crash),
-        "journal behind {}",
-        crash.calls
+        "journal behind {calls}"
+    );
+    assert!(rt; seal.bytes() == wanted.as_slice(), "seal behind {calls}");
+    assert!(rt;
+        is_sealed(row, &journal, &seal),
+        "what a reader finds behind {calls}"
     );
     assert!(rt;
-        seal.bytes() == wanted.as_slice(),
-        "seal behind {}",
-        crash.calls
-    );
-    // Only a journal that had no seal is left without one, as it was.
-    let has_none = seal.bytes().is_empty() && journal.bytes() == row.journal && row.seal.is_empty();
-    let is_sealed = is_found(seal.bytes(), journal.bytes());
-    assert!(rt;
-        is_sealed != has_none,
-        "what a reader finds behind {}",
-        crash.calls
+        keeps(&seal, row.seal, calls >= 4),
+        "the kept seal behind {calls}"
     );
     assert!(rt;
-        seal.kept_count() == if crash.calls >= 4 { 1 } else { 0 },
-        "seals kept behind {}",
-        crash.calls
-    );
-    assert!(rt;
-        journal.kept_count() == if crash.calls >= 10 { 1 } else { 0 },
-        "journals kept behind {}",
-        crash.calls
-    );
-    assert!(rt;
-        crash.calls < 4 || seal.kept_bytes(0) == Some(row.seal),
-        "the kept seal"
-    );
-    assert!(rt;
-        crash.calls < 10 || journal.kept_bytes(0) == Some(row.journal),
-        "the kept journal"
+        keeps(&journal, row.journal, calls >= 10),
+        "the kept journal behind {calls}"
     );
     Ok(())
 }
 
-fn try_each_crash<R: Abort>(rt: &R, alloc: Global, row: &Row) -> Result<(), Fail> {
+fn try_each_crash<R: Abort>(rt: &R, alloc: Global, row: &Row) -> Result<(), AllocError> {
     for calls in 0..18u64 {
         for (journal_back, seal_back) in [
             (false, false),
@@ -246,61 +242,51 @@ fn try_each_crash<R: Abort>(rt: &R, alloc: Global, row: &Row) -> Result<(), Fail
             (true, false),
             (true, true),
         ] {
-            try_crash(
-                rt,
-                alloc,
-                row,
-                Crash {
-                    calls,
-                    journal_back,
-                    seal_back,
-                },
-            )?;
+            let crash = Crash {
+                calls,
+                journal_back,
+                seal_back,
+            };
+            try_crash(rt, alloc, row, crash)?;
         }
     }
     Ok(())
 }
 
+const SEALED: Row = Row {
+    journal: OLD,
+    seal: OF_OLD,
+    entry: ENTRY_OF_OLD,
+    digest: DIGEST_OF_BOTH,
+};
+
 #[test]
 fn leaves_no_journal_that_its_seal_denies(rt: HostRuntime) -> Result<(), Fail> {
-    try_each_crash(
-        &rt,
-        rt.alloc(),
-        &Row {
-            journal: OLD,
-            seal: OF_OLD,
-            entry: ENTRY_OF_OLD,
-            digest: DIGEST_OF_BOTH,
-        },
-    )
+    Ok(try_each_crash(&rt, rt.alloc(), &SEALED)?)
 }
+
+const UNSEALED: Row = Row {
+    journal: OLD,
+    seal: b"",
+    entry: OTHER_OF_OLD,
+    digest: DIGEST_BEHIND_OTHER,
+};
 
 #[test]
 fn seals_a_journal_that_had_no_seal(rt: HostRuntime) -> Result<(), Fail> {
-    try_each_crash(
-        &rt,
-        rt.alloc(),
-        &Row {
-            journal: OLD,
-            seal: b"",
-            entry: OTHER_OF_OLD,
-            digest: DIGEST_BEHIND_OTHER,
-        },
-    )
+    Ok(try_each_crash(&rt, rt.alloc(), &UNSEALED)?)
 }
+
+const EMPTY: Row = Row {
+    journal: b"",
+    seal: b"",
+    entry: OTHER_OF_NONE,
+    digest: DIGEST_BEHIND_NONE,
+};
 
 #[test]
 fn seals_an_empty_file(rt: HostRuntime) -> Result<(), Fail> {
-    try_each_crash(
-        &rt,
-        rt.alloc(),
-        &Row {
-            journal: b"",
-            seal: b"",
-            entry: OTHER_OF_NONE,
-            digest: DIGEST_BEHIND_NONE,
-        },
-    )
+    Ok(try_each_crash(&rt, rt.alloc(), &EMPTY)?)
 }
 
 // The seal that stood there is of another journal: nothing is known of this one.
@@ -365,36 +351,54 @@ fn finds_an_open_journal_with_more_lines(rt: HostRuntime) -> Result<(), Fail> {
     Ok(())
 }
 
-// A run takes the place of those that began behind as many lines, and leaves the others, whatever their day.
-#[test]
-fn keeps_the_runs_behind_other_numbers(rt: HostRuntime) -> Result<(), Fail> {
+/// Four runs, two of them behind three lines.
+fn runs_behind_numbers() -> Runs {
     let mut runs = Runs::new();
     runs.add(run(0, 19, b"monday"));
     runs.add(run(3, 20, b"tuesday"));
     runs.add(run(5, 20, b"more"));
     runs.add(run(3, 21, b"grown"));
-    assert!(rt; runs.as_slice().len() == 3);
-    assert!(rt; lines_behind(runs.as_slice()) == 3);
-    let booked = scripts_booked(rt.alloc(), None, runs.as_slice())?;
-    let rows: [(&[u8], bool); 8] = [
-        (b"monday", true),
-        (b"tuesday", false),
-        (b"more", true),
-        (b"grown", true),
-        // More behind it, a beginning of it, a byte ahead of it, and nothing.
-        (b"monday and more", true),
-        (b"monda", false),
-        (b" monday", false),
-        (b"", false),
-    ];
+    runs
+}
+
+/// Whether these scripts are known of the runs behind fewer lines, or of all, or not.
+fn are_known(
+    alloc: Global,
+    lines: Option<u64>,
+    runs: &Runs,
+    rows: &[(&[u8], bool)],
+) -> Result<bool, AllocError> {
+    let booked = scripts_booked(alloc, lines, runs.as_slice())?;
     for (script, wanted) in rows {
         let (imprint, is_known) = imprint_beside(script, booked.as_slice());
-        assert!(rt; is_known == wanted);
-        assert!(rt; imprint == imprint_of(script));
+        if is_known != *wanted || imprint != imprint_of(script) {
+            return Ok(false);
+        }
     }
-    let ahead = scripts_booked(rt.alloc(), Some(3), runs.as_slice())?;
-    assert!(rt; imprint_beside(b"monday", ahead.as_slice()).1);
-    assert!(rt; !imprint_beside(b"grown", ahead.as_slice()).1);
+    Ok(true)
+}
+
+const SCRIPTS: [(&[u8], bool); 8] = [
+    (b"monday", true),
+    (b"tuesday", false),
+    (b"more", true),
+    (b"grown", true),
+    // More behind it, a beginning of it, a byte ahead of it, and nothing.
+    (b"monday and more", true),
+    (b"monda", false),
+    (b" monday", false),
+    (b"", false),
+];
+
+// A run takes the place of those that began behind as many lines, and leaves the others, whatever their day.
+#[test]
+fn keeps_the_runs_behind_other_numbers(rt: HostRuntime) -> Result<(), Fail> {
+    let runs = runs_behind_numbers();
+    assert!(rt; runs.as_slice().len() == 3);
+    assert!(rt; lines_behind(runs.as_slice()) == 3);
+    assert!(rt; are_known(rt.alloc(), None, &runs, &SCRIPTS)?);
+    let ahead: [(&[u8], bool); 2] = [(b"monday", true), (b"grown", false)];
+    assert!(rt; are_known(rt.alloc(), Some(3), &runs, &ahead)?);
     Ok(())
 }
 

@@ -23,15 +23,14 @@ fn is_refused(alloc: Global, bytes: &[u8], nth: u32, kind: SetKind) -> bool {
 fn cuts_and_wrong_bytes(rt: HostRuntime) -> Result<(), Fail> {
     let whole = records(rt.alloc(), no_legs()).ok_or("a set")?;
     for n in 0..whole.len() {
-        let nth = u32::try_from(n / 200 + 1).unwrap_or(0);
         let want = match n {
             0 => SetKind::NoHeader,
             200 | 400 => SetKind::NoTrailer,
             _ => SetKind::Short,
         };
+        let nth = nth_of(n);
         assert!(rt; is_refused(rt.alloc(), &whole[..n], nth, want), "{n} bytes");
-        let mut changed = whole.clone()?;
-        changed[n] = 0xff;
+        let changed = changed(&whole, n)?;
         assert!(rt;
             is_refused(rt.alloc(), &changed, nth, SetKind::BadByte),
             "0xFF at {n}"
@@ -40,18 +39,41 @@ fn cuts_and_wrong_bytes(rt: HostRuntime) -> Result<(), Fail> {
     Ok(())
 }
 
+/// The number of the record that has this byte.
+fn nth_of(n: usize) -> u32 {
+    u32::try_from(n / 200 + 1).unwrap_or(0)
+}
+
+/// The set with a wrong byte there.
+fn changed(whole: &Vec<u8>, n: usize) -> Result<Vec<u8>, AllocError> {
+    let mut changed = whole.clone()?;
+    if let Some(byte) = changed.get_mut(n) {
+        *byte = 0xff;
+    }
+    Ok(changed)
+}
+
 #[test]
 fn records_beyond_the_most(rt: HostRuntime) -> Result<(), Fail> {
     let whole = records(rt.alloc(), no_legs()).ok_or("a set")?;
-    match read(rt.alloc(), &whole, 2) {
-        Some(Err(fault)) => assert!(rt; fault.to_string(rt.alloc())?.as_str() == "S14 3"),
-        _ => assert!(rt; false, "three records are read where two may be"),
-    }
-    match read(rt.alloc(), &whole, 3) {
-        Some(Ok(set)) => assert!(rt; set.legs.is_empty()),
-        _ => assert!(rt; false, "three records are refused"),
-    }
+    let is_told = is_too_many(rt.alloc(), &whole)?;
+    assert!(rt; is_told, "three records are read where two may be");
+    assert!(rt; is_read(rt.alloc(), &whole), "three records are refused");
     Ok(())
+}
+
+fn is_too_many(alloc: Global, bytes: &[u8]) -> Result<bool, AllocError> {
+    match read(alloc, bytes, 2) {
+        Some(Err(fault)) => Ok(fault.to_string(alloc)?.as_str() == "S14 3"),
+        _ => Ok(false),
+    }
+}
+
+fn is_read(alloc: Global, bytes: &[u8]) -> bool {
+    match read(alloc, bytes, 3) {
+        Some(Ok(set)) => set.legs.is_empty(),
+        _ => false,
+    }
 }
 
 /// How many flights the set has, or the text of its fault.

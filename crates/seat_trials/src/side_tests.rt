@@ -57,29 +57,35 @@ struct Marked {
 /// The limits, in which three of four entries have the mark, drawn by lot.
 fn limits_with_marks(alloc: Global) -> Result<Marked, AllocError> {
     let mut lots = Lots::new(14);
-    let mut text = Vec::new(alloc);
-    let mut rows: Vec<Limit> = Vec::from_slice(alloc, same_limits())?;
+    let mut marked = Marked {
+        text: Vec::new(alloc),
+        rows: Vec::from_slice(alloc, same_limits())?,
+    };
     let mut row = 0usize;
     let mut digits = 0u8;
     for byte in limits() {
-        text.push(*byte)?;
+        marked.text.push(*byte)?;
         if *byte == b'/' {
             digits = 3;
         } else if digits > 0 {
             digits -= 1;
             if digits == 0 {
-                let listed = lots.below(4) > 0;
-                if listed {
-                    text.push(b'N')?;
-                }
-                if let Some(limit) = rows.get_mut(row) {
-                    limit.5 = listed;
-                }
+                mark(&mut marked, row, lots.below(4) > 0)?;
                 row = row.saturating_add(1);
             }
         }
     }
-    Ok(Marked { text, rows })
+    Ok(marked)
+}
+
+fn mark(marked: &mut Marked, row: usize, listed: bool) -> Result<(), AllocError> {
+    if let Some(limit) = marked.rows.get_mut(row) {
+        limit.5 = listed;
+    }
+    if listed {
+        marked.text.push(b'N')?;
+    }
+    Ok(())
 }
 
 /// Each place of the four flights: flight, first leg and last leg.
@@ -237,11 +243,8 @@ fn compare_rooms(trial: &Trial, plain: &Plain) -> Result<(), Why> {
 }
 
 fn step_both(trial: &mut Trial, beside: &mut Beside, lots: &mut Lots) -> Result<(), Why> {
-    let work = lots.work(beside.plain.bookings()).ok_or("a line")?;
-    let session = match work {
-        Work::Seats(_) => lots.below(8) as u8 + 1,
-        Work::Limit(_) => 0,
-        Work::Sale(_) => 0,
+    let Some((session, work)) = lots.asked(beside.plain.bookings()) else {
+        return Err("a line");
     };
     let entry = trial.step(session, work)?;
     beside.compare(entry, session, &work)

@@ -27,11 +27,10 @@ fn keeps_what_was_told(rt: HostRuntime) -> Result<(), Fail> {
     ];
     for (calls, torn, left) in rows {
         let mut fused = Fuse::new(tape(rt.alloc())?, calls);
-        let is_kept = keep(&mut fused, &LINE).is_ok();
-        assert!(rt; is_kept == (calls >= 2), "Ok after {calls}");
-        assert!(rt; fused.may_be_used() == (calls != 1), "usable after {calls}");
-        let failures = if is_kept { 0 } else { 1 };
-        assert!(rt; fused.failures() == failures, "failures after {calls}");
+        assert!(rt;
+            is_kept(&mut fused, calls),
+            "Ok, usable and failures after {calls}"
+        );
         let mut file = fused.into_inner();
         file.crash(torn);
         assert!(rt; file.bytes() == left, "left after {calls}");
@@ -39,17 +38,30 @@ fn keeps_what_was_told(rt: HostRuntime) -> Result<(), Fail> {
     Ok(())
 }
 
+/// Whether a line is kept where both calls pass, and else a failure is counted, behind which only a file that lost no sync
+/// may be used.
+fn is_kept(fused: &mut Fuse<TornTape>, calls: u64) -> bool {
+    let is_kept = keep(fused, &LINE).is_ok();
+    is_kept == (calls >= 2)
+        && fused.may_be_used() == (calls != 1)
+        && fused.failures() == u64::from(!is_kept)
+}
+
 #[test]
 fn syncs_no_more_behind_a_lost_sync(rt: HostRuntime) -> Result<(), Fail> {
     let mut fused = Fuse::new(tape(rt.alloc())?, 0);
-    assert!(rt; fused.sync().is_err());
-    assert!(rt; fused.sync().is_err());
-    assert!(rt; fused.append(&LINE).is_err());
-    assert!(rt; fused.cut(0).is_err());
-    assert!(rt; fused.read_all(rt.alloc(), 9).is_err());
+    assert!(rt; refuses_syncs(&mut fused) && refuses_more(rt.alloc(), &mut fused));
     assert!(rt; fused.failures() == 5);
     assert!(rt; fused.into_inner().bytes() == KEPT.as_slice());
     Ok(())
+}
+
+fn refuses_syncs(fused: &mut Fuse<TornTape>) -> bool {
+    fused.sync().is_err() && fused.sync().is_err()
+}
+
+fn refuses_more(alloc: Global, fused: &mut Fuse<TornTape>) -> bool {
+    fused.append(&LINE).is_err() && fused.cut(0).is_err() && fused.read_all(alloc, 9).is_err()
 }
 
 #[test]
@@ -63,15 +75,18 @@ fn cuts_and_reads(rt: HostRuntime) -> Result<(), Fail> {
     ];
     for (len, max, want) in rows {
         let mut file = tape(rt.alloc())?;
-        assert!(rt; keep(&mut file, &LINE).is_ok());
-        file.cut(len)?;
-        match (file.read_all(rt.alloc(), max), want) {
-            (Ok(found), Ok(text)) => assert!(rt; found.as_slice() == text, "cut at {len}"),
-            (Err(found), Err(fault)) => assert!(rt; found == fault, "cut at {len}"),
-            _ => assert!(rt; false, "cut at {len}"),
-        }
+        assert!(rt; keep(&mut file, &LINE).is_ok() && file.cut(len).is_ok());
+        assert!(rt; is_read(rt.alloc(), &mut file, max, want), "cut at {len}");
     }
     Ok(())
+}
+
+fn is_read(alloc: Global, file: &mut TornTape, max: u64, want: Result<&[u8], ReadFault>) -> bool {
+    match (file.read_all(alloc, max), want) {
+        (Ok(found), Ok(text)) => found.as_slice() == text,
+        (Err(found), Err(fault)) => found == fault,
+        _ => false,
+    }
 }
 
 #[test]
