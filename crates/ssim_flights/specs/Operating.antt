@@ -1,24 +1,13 @@
 -- SSIM chapter 7: the days on which a leg operates, by its period, days of operation and frequency rate.
-use Rattle.std.specs.Prelude.{◌↔◌, All, Contains, ℕ, ◌+◌, ◌-◌, ◌/◌, ◌%◌, ◌≤◌, ◌==◌, ◌&&◌, ◌||◌, Bool, false, not, IsTrue, List, ℤ, pos, ◌+ℤ◌, unsigned_abs, unwrap_or, slice_index_or, filter}
+use Rattle.std.specs.Prelude.{◌↔◌, All, Contains, ℕ, ◌+◌, ◌-◌, ◌≤◌, IsTrue, List, ℤ, pos, ◌+ℤ◌, unsigned_abs, unwrap_or, filter}
 use Rattle.std.specs.List.{range_with_len}
 use Rattle.std.specs.List.Sorted.{IsStrictlyIncreasing}
-use Rattle.jiff_core.specs.Calendar.{weekday_number}
+pub use Rattle.ssim_records.specs.Operating.{is_in_week, is_listed, operates}
 use Rattle.ssim_records.specs.declared.carrier.Leg.{Leg}
 
 -- the last day of the period, where `end` stands for an open one
 abbrev pub last_day : Leg → ℕ → ℕ
 last_day leg end = unwrap_or leg.to end
-
--- the day of the week is one of the days of operation, which begin with Monday
-abbrev pub is_listed : Leg → ℕ → Bool
-is_listed leg d = slice_index_or leg.days (weekday_number (pos d)) false
-
--- at frequency rate 2 every second week, counted from the first day of the period (an own rule)
-abbrev pub is_in_week : Leg → ℕ → Bool
-is_in_week leg d = not leg.second_week || (((d - leg.from) / 7) % 2 == 0)
-
-abbrev pub operates : Leg → ℕ → Bool
-operates leg d = is_listed leg d && is_in_week leg d
 
 -- the leg operates on day d
 pub record Operates (leg : Leg) (end d : ℕ) : Type 0 where

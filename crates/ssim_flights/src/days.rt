@@ -1,7 +1,6 @@
 //! The days on which a leg operates (SSIM chapter 7, period and days of operation).
-ghost use Rattle.std.specs.Prelude.{◌≡◌, ◌+◌, ◌-◌, ◌≤◌, ◌<◌, IfOk, pos, unwrap_or};
-ghost use Rattle.jiff_core.specs.Calendar.{weekday_number};
-ghost use Rattle.ssim_flights.specs.Operating.{days_among, last_day, operates};
+ghost use Rattle.std.specs.Prelude.{◌≡◌, ◌+◌, ◌-◌, ◌≤◌, IfOk};
+ghost use Rattle.ssim_flights.specs.Operating.{days_among, last_day};
 
 use airline_base::{Day, Items, Memory};
 use ssim_records::Leg;
@@ -26,28 +25,9 @@ pub(crate) fn days_among(alloc: Global, leg: &Leg, count: u32) -> Result<Days, M
     let mut days = Days::with_room(alloc, count as usize)?;
     let first = leg.from.number();
     for past in 0..count {
-        if operates(leg, first + past) {
+        if leg.operates_on(first + past) {
             days.push(Day::numbered(first + past))?;
         }
     }
     Ok(days)
-}
-
-/// Whether the day of the period is one of the days of operation, in one of the leg's weeks.
-fn operates(leg: &Leg, number: u32) -> bool
-    requires begun { leg.now.from ≤ number }
-    requires small { number ≤ 84005 }
-    ensures { result ≡ operates leg.now number }
-{
-    let weeks = (number - leg.from.number()) / 7;
-    leg.days[weekday(number)] && (!leg.second_week || weeks % 2 == 0)
-}
-
-/// The day of the week, from Monday as 0.
-fn weekday(number: u32) -> usize
-    requires { number ≤ 84005 }
-    ensures value { result ≡ weekday_number (pos number) }
-    ensures bound { result < 7 }
-{
-    ((number + 3) % 7) as usize
 }

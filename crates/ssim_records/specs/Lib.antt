@@ -1,5 +1,6 @@
 pub mod Cut
 pub mod FaultText
+pub mod Operating
 pub mod RecordFields
 pub mod RightSet
 pub mod SetFaults

@@ -5,6 +5,7 @@
 mod carrier;
 mod cut;
 pub mod laws;
+mod operating;
 mod record_fields;
 mod records;
 mod set;
