@@ -14,22 +14,27 @@ use Rattle.seat_files.specs.declared.fault.CarryKind.TheVariants as carries
 use Rattle.seat_files.specs.declared.fault.ListKind.{ListKind}
 use Rattle.seat_files.specs.declared.fault.ListKind.TheVariants as kinds
 
+abbrev pub kind_code : ListKind → List ℕ
+kind_code kinds.Locator = codes "T1"
+kind_code (kinds.Segment fault) = codes "T2"
+kind_code kinds.Status = codes "T3"
+kind_code kinds.Again = codes "T4"
+kind_code kinds.Class = codes "V1"
+kind_code kinds.ClassAgain = codes "V2"
+kind_code kinds.Seats = codes "V3"
+kind_code kinds.Refused = codes "W1"
+kind_code kinds.First = codes "K1"
+kind_code kinds.Protection = codes "G1"
+kind_code kinds.Source = codes "G2"
+kind_code kinds.SourceAgain = codes "G3"
+kind_code kinds.Target = codes "G4"
+kind_code kinds.TargetClass = codes "G5"
+kind_code kinds.TargetHeld = codes "G6"
+
+-- behind that of a segment line, what is wrong with it
 abbrev pub list_code : ListKind → List ℕ
-list_code kinds.Locator = codes "T1"
 list_code (kinds.Segment fault) = codes "T2 " ++ line_code fault
-list_code kinds.Status = codes "T3"
-list_code kinds.Again = codes "T4"
-list_code kinds.Class = codes "V1"
-list_code kinds.ClassAgain = codes "V2"
-list_code kinds.Seats = codes "V3"
-list_code kinds.Refused = codes "W1"
-list_code kinds.First = codes "K1"
-list_code kinds.Protection = codes "G1"
-list_code kinds.Source = codes "G2"
-list_code kinds.SourceAgain = codes "G3"
-list_code kinds.Target = codes "G4"
-list_code kinds.TargetClass = codes "G5"
-list_code kinds.TargetHeld = codes "G6"
+list_code kind = kind_code kind
 
 -- the code, a blank and the line
 abbrev pub list_text : ListKind → ℕ → List ℕ

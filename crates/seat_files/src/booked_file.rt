@@ -3,10 +3,10 @@
 ghost use Rattle.std.specs.Prelude.{◌≡◌};
 
 use crate::fault::Fault;
+use crate::file_fault::Part;
 use crate::refusal::Refusal;
 use crate::seal_file::SealFile;
-use crate::streams::{Input, opened};
-use airline_base::read_all;
+use crate::streams::{Input, bytes_of, opened_file};
 use seat_desk::DeskFault;
 use seat_seal::{
     Seal, SealEntry, SealFault, changes_booked, imprint_beside, read_seal, scripts_booked,
@@ -115,10 +115,10 @@ fn is_of_entry(
 
 /// The bytes of an input that is a regular file, read once more from its name.
 fn bytes_again(rt: &HostRuntime, input: &Input<'_>) -> Option<Vec<u8>> {
-    match input.metadata() {
+    match input.looked() {
         Ok(Some(file)) if file.is_file() => {}
         _ => return None,
     }
-    let mut again = opened(rt, input.name()).ok()?;
-    read_all(rt.alloc(), &mut again, MOST_BYTES).ok()
+    let again = opened_file(rt, input.name()).ok()?;
+    bytes_of(rt, again, MOST_BYTES, Part::Named).ok()?
 }

@@ -90,23 +90,37 @@ impl fmt::Display for ListKind {
 
     /// The code, T1 to T4, V1 to V3, W1, K1 or G1 to G6, and behind T2 that of the segment line.
     fn fmt<W: fmt::Write>(&self, f: &mut fmt::Formatter<W>) -> fmt::Result {
-        let kind = *self;
-        match kind {
-            ListKind::Locator => f.write_str("T1"),
+        match self {
             ListKind::Segment(fault) => write!(f, "T2 {fault}"),
-            ListKind::Status => f.write_str("T3"),
-            ListKind::Again => f.write_str("T4"),
-            ListKind::Class => f.write_str("V1"),
-            ListKind::ClassAgain => f.write_str("V2"),
-            ListKind::Seats => f.write_str("V3"),
-            ListKind::Refused => f.write_str("W1"),
-            ListKind::First => f.write_str("K1"),
-            ListKind::Protection => f.write_str("G1"),
-            ListKind::Source => f.write_str("G2"),
-            ListKind::SourceAgain => f.write_str("G3"),
-            ListKind::Target => f.write_str("G4"),
-            ListKind::TargetClass => f.write_str("G5"),
-            ListKind::TargetHeld => f.write_str("G6"),
+            _ => f.write_str(self.code()),
+        }
+    }
+}
+
+impl ListKind {
+    ghost use Rattle.std.specs.Prelude.{◌≡◌};
+    ghost use Rattle.seat_files.specs.Faults.{kind_code};
+
+    /// The code, without that of a segment line.
+    fn code(&self) -> &'static str
+        ensures { result.now ≡ kind_code self.now }
+    {
+        match self {
+            ListKind::Locator => "T1",
+            ListKind::Segment(_) => "T2",
+            ListKind::Status => "T3",
+            ListKind::Again => "T4",
+            ListKind::Class => "V1",
+            ListKind::ClassAgain => "V2",
+            ListKind::Seats => "V3",
+            ListKind::Refused => "W1",
+            ListKind::First => "K1",
+            ListKind::Protection => "G1",
+            ListKind::Source => "G2",
+            ListKind::SourceAgain => "G3",
+            ListKind::Target => "G4",
+            ListKind::TargetClass => "G5",
+            ListKind::TargetHeld => "G6",
         }
     }
 }

@@ -1,7 +1,8 @@
 //! What the file of a journal may not be: one of the inputs, or a file that the replies or what is said of faults go to.
-ghost use Rattle.std.specs.Prelude.{IfErr, IsTrue};
-ghost use Rattle.seat_files.specs.Refusals.{is_failure, is_of_file};
+ghost use Rattle.std.specs.Prelude.{◌≡◌, IfErr, IsTrue};
+ghost use Rattle.seat_files.specs.Refusals.{file_fault, is_failure, is_of_file};
 
+use crate::file_fault::{Bar, Failure, FileFault};
 use crate::journal_file::{UNFINISHED, is_same};
 use crate::kept_file::KEPT_BEFORE;
 use crate::refusal::Refusal;
@@ -10,9 +11,6 @@ use crate::streams::{Input, STANDARD, STANDARD_ERROR, STANDARD_OUTPUT};
 use seat_desk::{DeskFault, Inputs};
 use std::fs::Metadata;
 use std::{fs, io};
-
-/// Why --no-clobber refuses a file.
-pub const NOT_EMPTY: &str = "Is there and not empty";
 
 /// The file that a journal is to be written to, as it is before that.
 #[derive(Drop)]
@@ -24,22 +22,13 @@ pub struct Guard<'a> {
 impl<'a> Guard<'a> {
     /// Looks at the file. Only a regular one is looked at: a pipe or a device may be written to at any time. A name that a journal may
     /// not have is refused.
-    #[tactic(auto, using(crate::proofs::Refused::of_failure))]
     pub fn new(rt: &HostRuntime, path: &'a str) -> Result<Guard<'a>, Refusal<'a>>
         ensures refused { IfErr result (λ refusal. IsTrue (is_of_file refusal.fault)) }
     {
-        if path == STANDARD {
-            return Err(Refusal::barred(path, "Is no file"));
+        match there_at(rt, path) {
+            Ok(there) => Ok(Guard { path, there }),
+            Err(fault) => Err(Refusal::of_file(path, fault)),
         }
-        if is_reserved(path) {
-            return Err(Refusal::barred(path, "Ends as a file beside a journal"));
-        }
-        let there = match fs::metadata(rt, path) {
-            Ok(file) => Some(file).filter(|file| file.is_file()),
-            Err(error) if error.kind() == io::ErrorKind::NotFound => None,
-            Err(error) => return Err(Refusal::unopened(path, &error)),
-        };
-        Ok(Guard { path, there })
     }
 
     /// Refuses a file that is one of the inputs, by its name or by its device and its number there, so by a link too.
@@ -51,13 +40,21 @@ impl<'a> Guard<'a> {
     ) -> Result<(), Refusal<'a>>
         ensures refused { IfErr result (λ refusal. IsTrue (is_of_file refusal.fault)) }
     {
-        self.pass_one(&inputs.set)?;
-        self.pass_one(&inputs.limits)?;
+        if let Err(fault) = self.pass_one(&inputs.set) {
+            return Err(self.refused(&inputs.set, fault));
+        }
+        if let Err(fault) = self.pass_one(&inputs.limits) {
+            return Err(self.refused(&inputs.limits, fault));
+        }
         for script in scripts {
-            self.pass_one(script)?;
+            if let Err(fault) = self.pass_one(script) {
+                return Err(self.refused(script, fault));
+            }
         }
         for input in more {
-            self.pass_one(input)?;
+            if let Err(fault) = self.pass_one(input) {
+                return Err(self.refused(input, fault));
+            }
         }
         Ok(())
     }
@@ -67,12 +64,19 @@ impl<'a> Guard<'a> {
     pub fn pass_output(&self, rt: &HostRuntime) -> Result<(), Refusal<'a>>
         ensures refused { IfErr result (λ refusal. IsTrue (is_of_file refusal.fault)) }
     {
+        match self.pass_standard(rt) {
+            Ok(()) => Ok(()),
+            Err(fault) => Err(Refusal::of_file(self.path, fault)),
+        }
+    }
+
+    pub(crate) fn pass_standard(&self, rt: &HostRuntime) -> Result<(), FileFault> {
         let Some(there) = &self.there else {
             return Ok(());
         };
         match fs::metadata(rt, STANDARD_OUTPUT) {
-            Ok(file) if !is_same(&file, there) => pass_error(rt, self.path, there),
-            _ => Err(Refusal::barred(self.path, "Is where standard output goes")),
+            Ok(file) if !is_same(&file, there) => pass_error(rt, there),
+            _ => Err(FileFault::Barred(Bar::Output)),
         }
     }
 
@@ -81,44 +85,59 @@ impl<'a> Guard<'a> {
         ensures refused { IfErr result (λ refusal. IsTrue (is_of_file refusal.fault)) }
     {
         match &self.there {
-            Some(file) if file.len() > 0 => Err(Refusal::barred(self.path, NOT_EMPTY)),
+            Some(file) if file.len() > 0 => {
+                Err(Refusal::of_file(self.path, FileFault::Barred(Bar::NotEmpty)))
+            }
             _ => Ok(()),
         }
     }
 
-    #[tactic(auto, using(crate::proofs::Refused::of_failure))]
-    fn pass_one(&self, input: &Input<'a>) -> Result<(), Refusal<'a>>
-        ensures refused { IfErr result (λ refusal. IsTrue (is_of_file refusal.fault)) }
-    {
-        let is_named = !self.path.is_empty() && input.name() == self.path;
-        if is_named || self.is_same(input)? {
-            return Err(Refusal::barred(self.path, "Is another file of the command"));
+    fn pass_one(&self, input: &Input<'_>) -> Result<(), FileFault> {
+        if !self.path.is_empty() && input.name() == self.path {
+            return Err(FileFault::Barred(Bar::Another));
         }
-        Ok(())
+        let Some(there) = &self.there else {
+            return Ok(());
+        };
+        match input.looked()? {
+            Some(file) if is_same(&file, there) => Err(FileFault::Barred(Bar::Another)),
+            _ => Ok(()),
+        }
     }
 
-    fn is_same(&self, input: &Input<'a>) -> Result<bool, Refusal<'a>>
-        ensures refused { IfErr result (λ refusal. IsTrue (is_failure refusal.fault)) }
+    /// An input that fails is refused under its own name.
+    #[tactic(auto, using(crate::proofs::Refused::of_failure))]
+    fn refused(&self, input: &Input<'a>, fault: FileFault) -> Refusal<'a>
+        ensures value { result.fault ≡ file_fault fault }
+        ensures file { IsTrue (is_of_file result.fault) }
     {
-        let Some(there) = &self.there else {
-            return Ok(false);
-        };
-        match input.metadata()? {
-            Some(file) => Ok(is_same(&file, there)),
-            None => Ok(false),
+        match fault {
+            FileFault::Failed(failure) => Refusal::failed(input.name(), failure),
+            FileFault::Barred(_) => Refusal::of_file(self.path, fault),
         }
+    }
+}
+
+/// What is there under a name that a journal may have, where it is a regular file.
+fn there_at(rt: &HostRuntime, path: &str) -> Result<Option<Metadata>, FileFault> {
+    if path == STANDARD {
+        return Err(FileFault::Barred(Bar::NoFile));
+    }
+    if is_reserved(path) {
+        return Err(FileFault::Barred(Bar::Reserved));
+    }
+    match fs::metadata(rt, path) {
+        Ok(file) => Ok(Some(file).filter(|file| file.is_file())),
+        Err(error) if error.kind() == io::ErrorKind::NotFound => Ok(None),
+        Err(error) => Err(FileFault::from(error)),
     }
 }
 
 /// Refuses the file that standard error goes to, and says nothing of it there, since that would be written to this very file. Where nothing
 /// is open on it nothing goes there.
-pub fn pass_error<'b>(rt: &HostRuntime, path: &'b str, there: &Metadata) -> Result<(), Refusal<'b>>
-    ensures refused { IfErr result (λ refusal. IsTrue (is_of_file refusal.fault)) }
-{
+pub fn pass_error(rt: &HostRuntime, there: &Metadata) -> Result<(), FileFault> {
     match fs::metadata(rt, STANDARD_ERROR) {
-        Ok(file) if is_same(&file, there) => {
-            Err(Refusal::barred(path, "Is where standard error goes").silenced())
-        }
+        Ok(file) if is_same(&file, there) => Err(FileFault::Barred(Bar::Error)),
         _ => Ok(()),
     }
 }
@@ -133,62 +152,40 @@ pub fn files_taken<'b>(
     ensures refused { IfErr result (λ refusal. IsTrue (is_failure refusal.fault)) }
 {
     let mut files = Vec::new(rt.alloc());
-    add_all(rt, &mut files, inputs, scripts, more)?;
-    Ok(files)
-}
-
-fn add_all<'b>(
-    rt: &HostRuntime,
-    files: &mut Vec<Metadata>,
-    inputs: &Inputs<Input<'b>, Input<'b>>,
-    scripts: &[Input<'b>],
-    more: &[&Input<'b>],
-) -> Result<(), Refusal<'b>>
-    ensures refused { IfErr result (λ refusal. IsTrue (is_failure refusal.fault)) }
-{
-    add_loaded(files, inputs)?;
-    add_inputs(files, scripts)?;
+    if let Err(failure) = add_looked(&mut files, &inputs.set) {
+        return Err(Refusal::failed(inputs.set.name(), failure));
+    }
+    if let Err(failure) = add_looked(&mut files, &inputs.limits) {
+        return Err(Refusal::failed(inputs.limits.name(), failure));
+    }
+    for script in scripts {
+        if let Err(failure) = add_looked(&mut files, script) {
+            return Err(Refusal::failed(script.name(), failure));
+        }
+    }
     for input in more {
-        add_input(files, input)?;
+        if let Err(failure) = add_looked(&mut files, input) {
+            return Err(Refusal::failed(input.name(), failure));
+        }
     }
-    add_file(files, fs::metadata(rt, STANDARD_OUTPUT).ok())
-}
-
-fn add_loaded<'b>(
-    files: &mut Vec<Metadata>,
-    inputs: &Inputs<Input<'b>, Input<'b>>,
-) -> Result<(), Refusal<'b>>
-    ensures refused { IfErr result (λ refusal. IsTrue (is_failure refusal.fault)) }
-{
-    add_input(files, &inputs.set)?;
-    add_input(files, &inputs.limits)
-}
-
-fn add_inputs<'b>(files: &mut Vec<Metadata>, inputs: &[Input<'b>]) -> Result<(), Refusal<'b>>
-    ensures refused { IfErr result (λ refusal. IsTrue (is_failure refusal.fault)) }
-{
-    for input in inputs {
-        add_input(files, input)?;
+    match add_file(&mut files, fs::metadata(rt, STANDARD_OUTPUT).ok()) {
+        Ok(()) => Ok(files),
+        Err(_) => Err(Refusal::from(DeskFault::Memory)),
     }
-    Ok(())
 }
 
-fn add_input<'b>(files: &mut Vec<Metadata>, input: &Input<'b>) -> Result<(), Refusal<'b>>
-    ensures refused { IfErr result (λ refusal. IsTrue (is_failure refusal.fault)) }
-{
-    let file = input.metadata()?;
+fn add_looked(files: &mut Vec<Metadata>, input: &Input<'_>) -> Result<(), Failure> {
+    let file = input.looked()?;
     add_file(files, file)
 }
 
-fn add_file<'b>(files: &mut Vec<Metadata>, file: Option<Metadata>) -> Result<(), Refusal<'b>>
-    ensures refused { IfErr result (λ refusal. IsTrue (is_failure refusal.fault)) }
-{
+fn add_file(files: &mut Vec<Metadata>, file: Option<Metadata>) -> Result<(), Failure> {
     let Some(file) = file else {
         return Ok(());
     };
     match files.push(file) {
         Ok(()) => Ok(()),
-        Err(_) => Err(Refusal::from(DeskFault::Memory)),
+        Err(_) => Err(Failure::Memory),
     }
 }
 

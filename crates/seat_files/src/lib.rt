@@ -5,6 +5,7 @@
 
 mod booked_file;
 mod fault;
+mod file_fault;
 mod guard;
 mod journal_file;
 mod kept_file;
@@ -17,8 +18,9 @@ mod status_file;
 mod streams;
 
 pub use fault::{CarryKind, Fault, ListKind};
-pub use guard::{Guard, NOT_EMPTY, files_taken};
-pub use journal_file::{JournalFile, TOO_LONG, is_one_file, is_same, lines_in, of};
+pub use file_fault::{NOT_EMPTY, TOO_LONG};
+pub use guard::{Guard, files_taken};
+pub use journal_file::{JournalFile, is_one_file, is_same, lines_in, of};
 pub use kept_file::{Content, KEPT_BEFORE, Kept, kept_number};
 pub use list_file::ListFile;
 pub use once::pass_once;

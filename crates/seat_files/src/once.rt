@@ -2,11 +2,11 @@
 //! It knows which files are one, and nothing of what is in them.
 ghost use Rattle.std.specs.Prelude.{◌≡◌, ◌<◌, IfErr, IfSome, IsTrue, length};
 ghost use Rattle.seat_files.specs.Once.{is_one, named_again, place_among};
-ghost use Rattle.seat_files.specs.Refusals.{is_failure, is_of_scripts};
+ghost use Rattle.seat_files.specs.Refusals.{is_of_scripts};
 
+use crate::file_fault::Failure;
 use crate::refusal::Refusal;
 use crate::streams::Input;
-use seat_desk::DeskFault;
 use std::os::unix::fs::MetadataExt;
 
 /// Why such a file is refused.
@@ -30,19 +30,21 @@ pub fn pass_once<'b>(
 {
     let mut files = Vec::new(rt.alloc());
     for script in scripts {
-        add_id(&mut files, script)?;
+        if let Err(failure) = add_id(&mut files, script) {
+            return Err(Refusal::failed(script.name(), failure));
+        }
     }
-    add_id(&mut files, changes)?;
+    if let Err(failure) = add_id(&mut files, changes) {
+        return Err(Refusal::failed(changes.name(), failure));
+    }
     match named_again(files.as_slice()) {
         Some(place) => Err(Refusal::doubled(name_at(scripts, place, changes), TWICE)),
         None => Ok(()),
     }
 }
 
-fn add_id<'b>(files: &mut Vec<Option<FileId>>, input: &Input<'b>) -> Result<(), Refusal<'b>>
-    ensures refused { IfErr result (λ refusal. IsTrue (is_failure refusal.fault)) }
-{
-    let id = match input.metadata()? {
+fn add_id(files: &mut Vec<Option<FileId>>, input: &Input<'_>) -> Result<(), Failure> {
+    let id = match input.looked()? {
         Some(file) if file.is_file() && file.len() > 0 => Some(FileId {
             device: file.dev(),
             number: file.ino(),
@@ -51,7 +53,7 @@ fn add_id<'b>(files: &mut Vec<Option<FileId>>, input: &Input<'b>) -> Result<(), 
     };
     match files.push(id) {
         Ok(()) => Ok(()),
-        Err(_) => Err(Refusal::from(DeskFault::Memory)),
+        Err(_) => Err(Failure::Memory),
     }
 }
 

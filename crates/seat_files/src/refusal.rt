@@ -442,22 +442,41 @@ impl<'a> Refusal<'a> {
         let Some(name) = self.file else {
             return;
         };
-        if !self.ending.word.is_empty() && is_link(rt, name) {
-            // (what stands beside a file stands where a link leads)
-            if let Ok(path) = fs::canonicalize(rt, name) {
-                let path = path.into_string();
-                return self.tell_reason(
-                    rt,
-                    &Shown {
-                        name: path.as_str(),
-                    },
-                );
-            }
+        if let Some(path) = self.led(rt, name) {
+            return self.tell_reason(
+                rt,
+                &Shown {
+                    name: path.as_str(),
+                },
+            );
         }
         let file = Shown { name };
+        match self.words() {
+            Some(words) => {
+                let _ = eprintln!(rt; "seatdesk: {file}: {words}");
+            }
+            None => match self.fault {
+                Fault::Desk(DeskFault::Device) => self.tell_reason(rt, &file),
+                _ => self.tell_place(rt, &file),
+            },
+        }
+    }
+
+    /// Where a link of this name leads, if the fault is of what stands beside the file: that stands beside what the link leads to.
+    fn led(&self, rt: &HostRuntime, name: &str) -> Option<String> {
+        if self.ending.word.is_empty() || !is_link(rt, name) {
+            return None;
+        }
+        match fs::canonicalize(rt, name) {
+            Ok(path) => Some(path.into_string()),
+            Err(_) => None,
+        }
+    }
+
+    /// All that is said of the file, where no number stands in it.
+    fn words(&self) -> Option<&'static str> {
         if let Some(why) = self.why {
-            let _ = eprintln!(rt; "seatdesk: {file}: {why}");
-            return;
+            return Some(why);
         }
         match self.fault {
             Fault::Desk(DeskFault::TooLarge)
@@ -466,11 +485,8 @@ impl<'a> Refusal<'a> {
                     fault: DeskFault::TooLarge,
                     ..
                 },
-            ) => {
-                let _ = eprintln!(rt; "seatdesk: {file}: Too large");
-            }
-            Fault::Desk(DeskFault::Device) => self.tell_reason(rt, &file),
-            _ => self.tell_place(rt, &file),
+            ) => Some("Too large"),
+            _ => None,
         }
     }
 
@@ -530,16 +546,22 @@ impl fmt::Display for Shown<'_> {
     fn fmt<W: fmt::Write>(&self, f: &mut fmt::Formatter<W>) -> fmt::Result {
         for letter in self.name.chars() {
             if letter.is_control() {
-                let mut room = [0; 4];
-                for byte in letter.encode_utf8(&mut room).bytes() {
-                    write!(f, "\\x{byte:02X}")?;
-                }
+                write_bytes(letter, f)?;
             } else {
                 f.write_char(letter)?;
             }
         }
         Ok(())
     }
+}
+
+/// Each byte of a letter as `\xHH`.
+fn write_bytes<W: fmt::Write>(letter: char, f: &mut fmt::Formatter<W>) -> fmt::Result {
+    let mut room = [0; 4];
+    for byte in letter.encode_utf8(&mut room).bytes() {
+        write!(f, "\\x{byte:02X}")?;
+    }
+    Ok(())
 }
 
 /// Whether the fault is one of an input, and of the one that was read last. What the runs of a seal have against scripts is one of none.

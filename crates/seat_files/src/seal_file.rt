@@ -5,11 +5,10 @@ ghost use Rattle.std.specs.Option.{option_map};
 ghost use Rattle.seat_files.specs.Refusals.{is_failure};
 ghost use Rattle.seat_files.specs.Seals.{seal_bytes, seal_wanted};
 
+use crate::file_fault::{Failure, Part};
 use crate::journal_file::is_same;
 use crate::refusal::Refusal;
-use crate::streams::Input;
-use airline_base::{ReadFault, read_all};
-use seat_desk::DeskFault;
+use crate::streams::{Input, bytes_of};
 use seat_seal::Beside;
 use std::{fs, io};
 
@@ -47,12 +46,9 @@ impl SealFile {
         ensures wanted { IfOk result (λ seal. seal_wanted seal ≡ is_wanted) }
         ensures refused { IfErr result (λ refusal. IsTrue (is_failure refusal.fault)) }
     {
-        match journal.metadata()? {
-            Some(file) if file.is_file() => Ok(SealFile {
-                text: text_beside(rt, journal.name())?,
-                is_wanted,
-            }),
-            _ => Ok(SealFile::nothing(is_wanted)),
+        match text_beside(rt, journal) {
+            Ok(text) => Ok(SealFile { text, is_wanted }),
+            Err(failure) => Err(Refusal::failed(journal.name(), failure)),
         }
     }
 
@@ -79,58 +75,51 @@ impl SealFile {
 }
 
 /// The name of the seal of the file that a name leads to, if it leads to one.
-pub fn seal_path<'a>(rt: &HostRuntime, name: &'a str) -> Result<Option<String>, Refusal<'a>>
-    ensures refused { IfErr result (λ refusal. IsTrue (is_failure refusal.fault)) }
-{
+fn seal_path(rt: &HostRuntime, name: &str) -> Result<Option<String>, Failure> {
     let path = match fs::canonicalize(rt, name) {
         Ok(path) => path.into_string(),
         Err(error) if error.kind() == io::ErrorKind::NotFound => return Ok(None),
-        Err(error) => return Err(Refusal::unopened(name, &error)),
+        Err(error) => return Err(Failure::from(error)),
     };
     match format!(in rt.alloc(); "{path}{SEAL}") {
         Ok(path) => Ok(Some(path)),
-        Err(_) => Err(Refusal::from(DeskFault::Memory)),
+        Err(_) => Err(Failure::Memory),
     }
 }
 
-fn text_beside<'a>(rt: &HostRuntime, name: &'a str) -> Result<Option<Vec<u8>>, Refusal<'a>>
-    ensures refused { IfErr result (λ refusal. IsTrue (is_failure refusal.fault)) }
-{
-    match seal_path(rt, name)? {
-        Some(path) => text_at(rt, path.as_str(), name),
+/// The bytes of the seal of a journal that is open, where it is a regular file and has one.
+fn text_beside(rt: &HostRuntime, journal: &Input<'_>) -> Result<Option<Vec<u8>>, Failure> {
+    match journal.looked()? {
+        Some(file) if file.is_file() => {}
+        _ => return Ok(None),
+    }
+    match seal_path(rt, journal.name())? {
+        Some(path) => text_at(rt, path.as_str()),
         None => Ok(None),
     }
 }
 
-/// The bytes of the seal at this path, of the journal of this name, if there is one. What is no regular file, as a pipe is none, and
-/// what is longer than any seal, has none of a seal's.
-pub fn text_at<'a>(
-    rt: &HostRuntime,
-    path: &str,
-    name: &'a str,
-) -> Result<Option<Vec<u8>>, Refusal<'a>>
-    ensures refused { IfErr result (λ refusal. IsTrue (is_failure refusal.fault)) }
-{
+/// The bytes of the seal at this path, if there is one. What is no regular file, as a pipe is none, and what is longer than any seal, has
+/// none of a seal's.
+pub fn text_at(rt: &HostRuntime, path: &str) -> Result<Option<Vec<u8>>, Failure> {
     match fs::metadata(rt, path) {
         Ok(there) if !there.is_file() => return Ok(Some(Vec::new(rt.alloc()))),
         _ => {}
     }
-    let mut input = match fs::open(rt, path) {
-        Ok(file) => Input::of_file(file, name),
+    let file = match fs::open(rt, path) {
+        Ok(file) => file,
         Err(error) if error.kind() == io::ErrorKind::NotFound => return Ok(None),
-        Err(error) => return Err(Refusal::unopened(name, &error).beside(SEAL)),
+        Err(error) => return Err(Failure::of(Part::Seal, &error)),
     };
-    match read_all(rt.alloc(), &mut input, MOST_SEAL_BYTES) {
-        Ok(text) => Ok(Some(text)),
-        Err(ReadFault::TooLarge) => Ok(Some(Vec::new(rt.alloc()))),
-        Err(ReadFault::Device) => Err(Refusal::unread(&input).beside(SEAL)),
-        Err(ReadFault::Memory) => Err(Refusal::from(DeskFault::Memory)),
+    match bytes_of(rt, file, MOST_SEAL_BYTES, Part::Seal)? {
+        Some(text) => Ok(Some(text)),
+        None => Ok(Some(Vec::new(rt.alloc()))),
     }
 }
 
 /// Whether a journal's name leads to another file than the one that is open, as where a run replaced it meanwhile.
 pub fn is_moved(rt: &HostRuntime, journal: &Input<'_>) -> bool {
-    let Ok(Some(own)) = journal.metadata() else {
+    let Ok(Some(own)) = journal.looked() else {
         return false;
     };
     match fs::metadata(rt, journal.name()) {

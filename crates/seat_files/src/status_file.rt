@@ -28,13 +28,20 @@ impl StatusFile {
             Err(refusal) if refusal.is_barred() => return Err(refusal.as_unsaid()),
             _ => {}
         }
+        match StatusFile::at(rt, path) {
+            Some(file) => Ok(file),
+            None => Err(Refusal::from(DeskFault::Memory)),
+        }
+    }
+
+    fn at(rt: &HostRuntime, path: &str) -> Option<StatusFile> {
         let (Ok(path), Ok(beside_path)) = (
             format!(in rt.alloc(); "{path}"),
             format!(in rt.alloc(); "{path}{UNFINISHED}"),
         ) else {
-            return Err(Refusal::from(DeskFault::Memory));
+            return None;
         };
-        Ok(StatusFile { path, beside_path })
+        Some(StatusFile { path, beside_path })
     }
 
     pub fn path(&self) -> &str {
@@ -55,9 +62,16 @@ fn pass<'a>(
     inputs: &Inputs<Input<'a>, Input<'a>>,
     journal: &'a str,
 ) -> Result<(), Refusal<'a>> {
-    let guard = Guard::new(rt, path)?;
-    pass_inputs(rt, &guard, inputs, journal)?;
-    guard.pass_output(rt)?;
+    let guard = match Guard::new(rt, path) {
+        Ok(guard) => guard,
+        Err(refusal) => return Err(refusal),
+    };
+    if let Err(refusal) = pass_inputs(rt, &guard, inputs, journal) {
+        return Err(refusal);
+    }
+    if let Err(refusal) = guard.pass_output(rt) {
+        return Err(refusal);
+    }
     is_regular(rt, path)
 }
 
@@ -67,8 +81,10 @@ fn pass_inputs<'a>(
     inputs: &Inputs<Input<'a>, Input<'a>>,
     journal: &'a str,
 ) -> Result<(), Refusal<'a>> {
-    let lines = opened(rt, journal)?;
-    guard.pass(inputs, &[], &[&lines])
+    match opened(rt, journal) {
+        Ok(lines) => guard.pass(inputs, &[], &[&lines]),
+        Err(refusal) => Err(refusal),
+    }
 }
 
 // What stands there, if anything does, is a regular file.
