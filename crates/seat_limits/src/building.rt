@@ -1,6 +1,6 @@
 //! The grid that limit rows give to dated flights.
 ghost use Rattle.std.specs.Prelude.{◌≡◌, ◌<◌, ℕ, length, Some, IfOk, OnOk, IfSome};
-ghost use Rattle.seat_nesting.specs.Nesting.{IsDistinct, steps_at, steps_of};
+ghost use Rattle.seat_nesting.specs.Nesting.{HasLadders, IsDistinct, steps_at, steps_of};
 ghost use Rattle.seat_limits.specs.Authorised.{authorised_grid, authorised_legs, row_steps, AreShares};
 ghost use Rattle.seat_limits.specs.RowStretches.{IsRowIndex};
 
@@ -13,18 +13,45 @@ use std::alloc::Global;
 
 /// The ladders that limit rows give to the legs of flights: each leg has that of the last row
 /// with its airline, number, suffix and city pair whose period holds its local day.
-#[tactic(auto, using(crate::proofs::Grids::built_ladders))]
 pub fn build_grid(alloc: Global, flights: &Flights, rows: &[LimitRow]) -> Result<Grid, Memory>
     ensures { IfOk result (λ grid. grid ≡ authorised_grid rows.now flights.now) }
 {
-    let index = RowIndex::new(alloc, rows)?;
-    let mut shares = no_shares(alloc, rows)?;
-    let mut grid = Vec::with_capacity(alloc, flights.len() as usize)?;
+    let Ok(index) = RowIndex::new(alloc, rows) else {
+        return Err(Memory);
+    };
+    let Ok(grid) = legs_of_all(alloc, flights, rows, &index) else {
+        return Err(Memory);
+    };
+    Grid::of(alloc, grid)
+}
+
+/// The ladders of each flight's legs.
+fn legs_of_all(
+    alloc: Global,
+    flights: &Flights,
+    rows: &[LimitRow],
+    index: &RowIndex,
+) -> Result<Vec<FlightLegs>, Memory>
+    requires { IsRowIndex index.now.last index.now.edges.items index.now.found.items rows.now }
+    ensures legs { IfOk result (λ grid. grid.items ≡ authorised_grid rows.now flights.now) }
+    ensures distinct { IfOk result (λ grid. HasLadders grid.items) }
+{
+    let Ok(mut shares) = no_shares(alloc, rows) else {
+        return Err(Memory);
+    };
+    let Ok(mut grid) = Vec::with_capacity(alloc, flights.len() as usize) else {
+        return Err(Memory);
+    };
     for i in 0..flights.len() {
         let flight = flights.flight(i);
-        grid.push(legs_of(alloc, flight, rows, &index, &mut shares)?)?;
+        let Ok(legs) = legs_of(alloc, flight, rows, index, &mut shares) else {
+            return Err(Memory);
+        };
+        let Ok(()) = grid.push(legs) else {
+            return Err(Memory);
+        };
     }
-    Grid::of(alloc, grid)
+    Ok(grid)
 }
 
 /// The ladders of a flight's legs.
@@ -41,10 +68,17 @@ fn legs_of(
     ensures distinct { IfOk result (λ legs. (leg : ℕ) → IsDistinct (steps_at legs leg)) }
     ensures shares { OnOk result (AreShares shares.new.items rows.now) }
 {
-    let mut ladders = Vec::with_capacity(alloc, flight.legs.len())?;
+    let Ok(mut ladders) = Vec::with_capacity(alloc, flight.legs.len()) else {
+        return Err(Memory);
+    };
     for leg in flight.legs.as_slice() {
         let row = index.row(rows, leg_pair_of(flight, leg), leg.day);
-        ladders.push(shared_of(alloc, rows, shares, row)?)?;
+        let Ok(ladder) = shared_of(alloc, rows, shares, row) else {
+            return Err(Memory);
+        };
+        let Ok(()) = ladders.push(ladder) else {
+            return Err(Memory);
+        };
     }
     Ok(FlightLegs::of(ladders))
 }
@@ -96,8 +130,12 @@ fn share(
     if let Some(ladder) = &shares[i] {
         return ladder.again();
     }
-    let ladder = SharedLadder::of(alloc, rows[i].ladder.ladder())?;
-    let kept = ladder.again()?;
+    let Ok(ladder) = SharedLadder::of(alloc, rows[i].ladder.ladder()) else {
+        return Err(Memory);
+    };
+    let Ok(kept) = ladder.again() else {
+        return Err(Memory);
+    };
     shares[i] = Some(kept);
     Ok(ladder)
 }

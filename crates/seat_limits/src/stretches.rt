@@ -15,17 +15,23 @@ pub struct Stretches {
 
 impl Stretches {
     /// So many stretches without a row.
-    #[tactic(auto, using(crate::proofs::Painting::skip_none, crate::proofs::Painting::skip_none_more, crate::proofs::Painting::skips_at_first))]
+    #[tactic(auto, using(crate::proofs::Painting::skip_none_more, crate::proofs::Painting::skips_at_first))]
     pub fn new(alloc: Global, count: usize) -> Result<Stretches, Memory>
         ensures rows { IfOk result (λ s. s.rows.items ≡ replicate count None) }
         ensures skips { IfOk result (λ s. Skips s.rows.items s.skips.items) }
     {
-        let rows = vec![in alloc; None; count]?;
+        let Ok(rows) = vec![in alloc; None; count] else {
+            return Err(Memory);
+        };
         let mut skips = Vec::new(alloc);
         for i in 0..count {
-            skips.push(i)?;
+            let Ok(()) = skips.push(i) else {
+                return Err(Memory);
+            };
         }
-        skips.push(count)?;
+        let Ok(()) = skips.push(count) else {
+            return Err(Memory);
+        };
         Ok(Stretches { rows, skips })
     }
 

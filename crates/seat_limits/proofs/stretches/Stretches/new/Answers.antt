@@ -5,4 +5,4 @@ pub loop-i-init : goal.loop-i-init
 loop-i-init c = rw c.new-skips.ensures.items skip_none
 
 pub loop-i-preserved : goal.loop-i-preserved
-loop-i-preserved c = rw c.in_ok-push.ensures.items (skip_none_more c.loop-i.skips.items c.loop-i.i c.loop-i.invariant)
+loop-i-preserved c = rw c.in-Ok-push.ensures.items (skip_none_more c.loop-i.skips.items c.loop-i.i c.loop-i.invariant)

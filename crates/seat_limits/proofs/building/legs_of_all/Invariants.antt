@@ -1,7 +1,7 @@
 use Rattle.std.proofs.Common.{◌≡◌, map, take}
 use Rattle.seat_nesting.specs.Nesting.{HasLadders}
 use Rattle.seat_limits.specs.Authorised.{authorised_legs, AreShares}
-use Rattle.seat_limits.proofs.building.build_grid.Given as goal
+use Rattle.seat_limits.proofs.building.legs_of_all.Given as goal
 
 abbrev pub invariant-loop-i : goal.invariant-loop-i
 invariant-loop-i l = record {
