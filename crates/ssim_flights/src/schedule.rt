@@ -107,9 +107,16 @@ pub(crate) fn schedule(alloc: Global, plan: &Plan, legs: &[Leg]) -> Result<Vec<S
     requires end { plan.now.end ≤ 47846 }
     ensures { IfOk result (λ list. list.items ≡ schedule plan.now legs.now) }
 {
-    let mut list = Vec::with_capacity(alloc, legs.len())?;
+    let Ok(mut list) = Vec::with_capacity(alloc, legs.len()) else {
+        return Err(Memory);
+    };
     for leg in legs {
-        list.push(schedule_leg(alloc, plan, leg)?)?;
+        let Ok(scheduled) = schedule_leg(alloc, plan, leg) else {
+            return Err(Memory);
+        };
+        let Ok(()) = list.push(scheduled) else {
+            return Err(Memory);
+        };
     }
     Ok(list)
 }
