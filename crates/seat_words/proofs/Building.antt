@@ -29,10 +29,10 @@ argued a r (Ok x) (Ok y) arg was has adds = argued_on a r x arg y was has adds
 argued a r (Err e) (Ok y) arg was has adds = absurd adds
 argued a r old (Err e) arg was has adds = tt
 
--- arguments are their first one and those behind it
-pub parts : (xs : List Argument) (d : Argument) → 1 ≤ length xs → xs ≡ get_or xs 0 d ∷ take (length xs - 1) (drop 1 xs)
+-- a list is its first entry and those behind it
+pub parts : {A : Type 0} (xs : List A) (d : A) → 1 ≤ length xs → xs ≡ get_or xs 0 d ∷ take (length xs - 1) (drop 1 xs)
 parts [] d some = absurd (omega (arith, some))
-parts (x ∷ xs) d some = ap (λ (l : List Argument). x ∷ l) (sym (take_all (length (x ∷ xs) - 1) xs (omega arith)))
+parts {A} (x ∷ xs) d some = ap (λ (l : List A). x ∷ l) (sym (take_all (length (x ∷ xs) - 1) xs (omega arith)))
 
 -- a command with several more, the first of which is added ahead of the others
 pub added : {E : Type 0} (a : App) (xs rest : List Argument) (x : Argument) (old mid new : Result Command E) (arg : Arg)

@@ -5,7 +5,11 @@ use Rattle.clap.specs.declared.builder.action.ArgAction.TheVariants.{Append, Set
 use Rattle.clap.specs.declared.builder.arg.Arg.{Arg}
 use Rattle.clap.specs.declared.builder.command.Command.{Command}
 use Rattle.clap.specs.declared.builder.command.Command.TheViews.{out-Command as fields_of}
+use Rattle.seat_words.specs.declared.naming.Name.{Name}
+use Rattle.seat_words.specs.declared.naming.Named.{Named}
+use Rattle.seat_words.specs.declared.naming.Named.TheVariants as named
 use Rattle.seat_words.specs.declared.commands.arguments.Argument.{Argument}
+use Rattle.seat_words.specs.declared.commands.arguments.Described.{Described}
 use Rattle.seat_words.specs.declared.commands.arguments.Argument.TheVariants.{Flag, Optional, OptionalWord, Rest, Several, Wanted, WantedWord, Words}
 
 -- an option with a value, which must be there
@@ -330,6 +334,44 @@ asking_app = with_command (with_command (with_command (with_command (with_comman
 unfoldable pub seatdesk_app : App
 seatdesk_app = with_command (with_command (with_command (with_command (with_command (with_command (with_command (with_command
     asking_app audit_app) seal_app) recover_app) replies_app) told_app) why_app) explain_app) season_app
+
+-- what is read of a command that is so described
+abbrev pub app_as : Described → App
+app_as described = with_arguments (with_arguments (new_app described.name.now) described.horizon.now) described.arguments.now
+
+-- what each command is read as
+abbrev pub app_named : Named → App
+app_named named.Ladder = ladder_app
+app_named named.Check = check_app
+app_named named.Flights = flights_app
+app_named named.Cover = cover_app
+app_named named.Rooms = rooms_app
+app_named named.Loads = loads_app
+app_named named.Run = run_app
+app_named named.Serve = serve_app
+app_named named.Route = route_app
+app_named named.Bookings = bookings_app
+app_named named.Waiting = waiting_app
+app_named named.Pickup = pickup_app
+app_named named.History = history_app
+app_named named.Avs = avs_app
+app_named named.Reconcile = reconcile_app
+app_named named.Compare = compare_app
+app_named named.Carry = carry_app
+app_named named.Changes = changes_app
+app_named named.Audit = audit_app
+app_named named.Seal = seal_app
+app_named named.Recover = recover_app
+app_named named.Replies = replies_app
+app_named named.Told = told_app
+app_named named.Why = why_app
+app_named named.Explain = explain_app
+app_named named.Season = season_app
+
+-- the program with the commands of these names, one after the other
+abbrev pub with_commands : App → List Name → App
+with_commands a [] = a
+with_commands a (x ∷ xs) = with_commands (with_command a (app_named x.named)) xs
 
 -- the command is read as a, and its options are its own
 pub record IsBuiltAs (a : App) (c : Command) : Type 0 where

@@ -1,7 +1,7 @@
 //! The commands, as clap reads them and as their help shows them.
-ghost use Rattle.std.specs.Prelude.{IfOk};
+ghost use Rattle.std.specs.Prelude.{◌≡◌, IfOk};
 ghost use Rattle.clap.specs.Words.{App};
-ghost use Rattle.seat_words.specs.CommandLine.{IsBuiltAs, asking_app, bare_app, named_app, seatdesk_app, selling_app, with_command, with_switches};
+ghost use Rattle.seat_words.specs.CommandLine.{IsBuiltAs, app_as, app_named, bare_app, named_app, seatdesk_app, with_command, with_commands, with_switches};
 
 mod arguments;
 mod controllers;
@@ -12,21 +12,16 @@ mod routes;
 mod sales;
 mod schedules;
 
-use arguments::{flag, lettered_flag, with_argument};
+use super::naming::{NAMES, Name, Named};
+use arguments::{Described, described_command, flag, lettered_flag, with_argument};
 use clap::Command;
-use controllers::changes_command;
-use journals::{audit_command, replies_command, told_command, why_command};
-use partners::{avs_command, reconcile_command};
-use questions::{
-    bookings_command, history_command, loads_command, pickup_command, rooms_command,
-    waiting_command,
-};
-use routes::route_command;
-use sales::{carry_command, recover_command, run_command, seal_command, serve_command};
-use schedules::{
-    check_command, compare_command, cover_command, explain_command, flights_command,
-    ladder_command, season_command,
-};
+use controllers::CHANGES;
+use journals::{AUDIT, REPLIES, TOLD, WHY};
+use partners::{AVS, RECONCILE};
+use questions::{BOOKINGS, HISTORY, LOADS, PICKUP, ROOMS, WAITING};
+use routes::ROUTE;
+use sales::{CARRY, RECOVER, RUN, SEAL, SERVE};
+use schedules::{CHECK, COMPARE, COVER, EXPLAIN, FLIGHTS, LADDER, SEASON};
 use std::alloc::{AllocError, Global};
 
 const VERSION: &str = "1.0.0";
@@ -45,47 +40,56 @@ const QUIET_HELP: &str = "Never says on a terminal how far a long command is";
 pub(crate) fn seatdesk_command<'a>(alloc: Global) -> Result<Command<'a>, AllocError>
     ensures { IfOk result (IsBuiltAs seatdesk_app) }
 {
-    let program = asking_command(alloc);
-    let program = with_command(alloc, program, audit_command(alloc));
-    let program = with_command(alloc, program, seal_command(alloc));
-    let program = with_command(alloc, program, recover_command(alloc));
-    let program = with_command(alloc, program, replies_command(alloc));
-    let program = with_command(alloc, program, told_command(alloc));
-    let program = with_command(alloc, program, why_command(alloc));
-    let program = with_command(alloc, program, explain_command(alloc));
-    with_command(alloc, program, season_command(alloc))
+    with_commands(alloc, bare_command(alloc), NAMES)
 }
 
-// The program with those, and with the commands that ask what a journal comes to, or carry it to another season.
-fn asking_command<'a>(alloc: Global) -> Result<Command<'a>, AllocError>
-    ensures { IfOk result (IsBuiltAs asking_app) }
+// The program with the commands of these names, one after the other, if it could be made.
+fn with_commands<'a>(
+    alloc: Global,
+    program: Result<Command<'a>, AllocError>,
+    names: &[Name],
+) -> Result<Command<'a>, AllocError>
+    ensures { (a : App) → IfOk program.entry (IsBuiltAs a) → IfOk result (IsBuiltAs (with_commands a names.now)) }
 {
-    let program = selling_command(alloc);
-    let program = with_command(alloc, program, bookings_command(alloc));
-    let program = with_command(alloc, program, waiting_command(alloc));
-    let program = with_command(alloc, program, pickup_command(alloc));
-    let program = with_command(alloc, program, history_command(alloc));
-    let program = with_command(alloc, program, avs_command(alloc));
-    let program = with_command(alloc, program, reconcile_command(alloc));
-    let program = with_command(alloc, program, compare_command(alloc));
-    let program = with_command(alloc, program, carry_command(alloc));
-    with_command(alloc, program, changes_command(alloc))
+    let [name, more @ ..] = names else {
+        return program;
+    };
+    let described = described_by(name.named);
+    let program = with_command(alloc, program, described_command(alloc, described));
+    with_commands(alloc, program, more)
 }
 
-// The program with the commands that work on a schedule, on one leg, or on scripts.
-fn selling_command<'a>(alloc: Global) -> Result<Command<'a>, AllocError>
-    ensures { IfOk result (IsBuiltAs selling_app) }
+fn described_by(command: Named) -> &'static Described
+    ensures { app_as result.now ≡ app_named command }
 {
-    let program = bare_command(alloc);
-    let program = with_command(alloc, program, Ok(ladder_command(alloc)));
-    let program = with_command(alloc, program, check_command(alloc));
-    let program = with_command(alloc, program, flights_command(alloc));
-    let program = with_command(alloc, program, cover_command(alloc));
-    let program = with_command(alloc, program, rooms_command(alloc));
-    let program = with_command(alloc, program, loads_command(alloc));
-    let program = with_command(alloc, program, run_command(alloc));
-    let program = with_command(alloc, program, serve_command(alloc));
-    with_command(alloc, program, route_command(alloc))
+    match command {
+        Named::Ladder => LADDER,
+        Named::Check => CHECK,
+        Named::Flights => FLIGHTS,
+        Named::Cover => COVER,
+        Named::Rooms => ROOMS,
+        Named::Loads => LOADS,
+        Named::Run => RUN,
+        Named::Serve => SERVE,
+        Named::Route => ROUTE,
+        Named::Bookings => BOOKINGS,
+        Named::Waiting => WAITING,
+        Named::Pickup => PICKUP,
+        Named::History => HISTORY,
+        Named::Avs => AVS,
+        Named::Reconcile => RECONCILE,
+        Named::Compare => COMPARE,
+        Named::Carry => CARRY,
+        Named::Changes => CHANGES,
+        Named::Audit => AUDIT,
+        Named::Seal => SEAL,
+        Named::Recover => RECOVER,
+        Named::Replies => REPLIES,
+        Named::Told => TOLD,
+        Named::Why => WHY,
+        Named::Explain => EXPLAIN,
+        Named::Season => SEASON,
+    }
 }
 
 // The program with one more command, which has the switches too, if both could be made.
@@ -97,8 +101,13 @@ fn with_command<'a>(
     ensures { (a sub : App) → IfOk program.entry (IsBuiltAs a) → IfOk command.entry (IsBuiltAs sub)
         → IfOk result (IsBuiltAs (with_command a sub)) }
 {
-    let command = with_switches(alloc, command);
-    program?.subcommand(command?)
+    let Ok(program) = program else {
+        return Err(AllocError);
+    };
+    let Ok(command) = with_switches(alloc, command) else {
+        return Err(AllocError);
+    };
+    program.subcommand(command)
 }
 
 // The program before its commands. The switches stand ahead of a command, or behind it.

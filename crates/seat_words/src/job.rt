@@ -4,7 +4,7 @@ ghost use Rattle.clap.specs.Walk.{texts};
 ghost use Rattle.clap.specs.Words.{FailsBy, all_of, fault_of, first_of, found_of, kind_of, matches_of, rows_of, subcommand_of, subcommand_rows_of, takes};
 ghost use Rattle.clap.specs.declared.error.kind.ErrorKind.TheVariants.{ArgumentConflict, InvalidValue, OutOfMemory};
 ghost use Rattle.seat_words.specs.CommandLine.{seatdesk_app};
-ghost use Rattle.seat_words.specs.Jobs.{Asks, IsAvs, IsChanges, IsCompare, IsCover, IsHistory, IsOver, IsPickup, IsReconcile, IsRooms, IsShaped, IsTold, has_values, horizon_values, is_answerable, is_complete, is_flagged, is_quiet, is_switched, is_verbose, values_of, word_of};
+ghost use Rattle.seat_words.specs.Jobs.{Asks, IsOver, IsShaped, has_values, horizon_values, is_answerable, is_complete, is_flagged, is_quiet, is_switched, is_verbose, values_of, word_of};
 ghost use Rattle.seat_words.specs.declared.naming.Named.TheVariants as named;
 
 use super::commands::seatdesk_command;
@@ -129,15 +129,45 @@ pub fn read_words<'a>(alloc: Global, words: &'a [&'a str]) -> Result<CommandLine
         takes seatdesk_app (texts words.entry.now) ≡ true → kind_of e ≡ OutOfMemory) }
     ensures kinds { FailsBy (fault_of seatdesk_app (texts words.entry.now)) result }
 {
-    let command = seatdesk_command(alloc)?;
-    let matches = command.try_get_matches_from(words)?;
-    let is_verbose = is_switched(&matches, "verbose");
-    let is_quiet = is_switched(&matches, "quiet");
-    let job = job_of(alloc, &matches)?;
+    match found_in(alloc, words) {
+        Ok(matches) => line_of(alloc, &matches),
+        Err(fault) => Err(fault),
+    }
+}
+
+// What clap finds in the words: one of the commands, with each value that it asks for.
+fn found_in<'a>(alloc: Global, words: &'a [&'a str]) -> Result<ArgMatches<'a>, Error>
+    ensures matches { IfOk result (λ m.
+        (matches_of seatdesk_app (texts words.entry.now) ≡ rows_of (found_of m))
+        × (subcommand_of seatdesk_app (texts words.entry.now) ≡ subcommand_rows_of m)) }
+    ensures answerable { IfOk result (λ m. is_answerable (subcommand_rows_of m) ≡ true) }
+    ensures passes { IfErr result (λ e.
+        takes seatdesk_app (texts words.entry.now) ≡ true → kind_of e ≡ OutOfMemory) }
+    ensures kinds { FailsBy (fault_of seatdesk_app (texts words.entry.now)) result }
+{
+    let Ok(command) = seatdesk_command(alloc) else {
+        return Err(Error::from(AllocError));
+    };
+    command.try_get_matches_from(words)
+}
+
+// The command line that clap found. An error is want of memory.
+fn line_of<'a>(alloc: Global, matches: &ArgMatches<'a>) -> Result<CommandLine<'a>, Error>
+    requires { is_answerable (subcommand_rows_of matches.now) ≡ true }
+    ensures asks { IfOk result (λ asked. IsSomeAnd (subcommand_rows_of matches.now) (Asks asked.job)) }
+    ensures verbose { IfOk result (λ asked.
+        is_verbose (rows_of (found_of matches.now)) (subcommand_rows_of matches.now) ≡ asked.is_verbose) }
+    ensures quiet { IfOk result (λ asked.
+        is_quiet (rows_of (found_of matches.now)) (subcommand_rows_of matches.now) ≡ asked.is_quiet) }
+    ensures memory { IfErr result (λ e. kind_of e ≡ OutOfMemory) }
+{
+    let Ok(job) = job_of(alloc, matches) else {
+        return Err(Error::from(AllocError));
+    };
     Ok(CommandLine {
         job,
-        is_verbose,
-        is_quiet,
+        is_verbose: is_switched(matches, "verbose"),
+        is_quiet: is_switched(matches, "quiet"),
     })
 }
 
@@ -168,7 +198,9 @@ pub fn words_in_conflict(alloc: Global, message: &str) -> Result<Error, AllocErr
 fn fault_of_kind(alloc: Global, kind: ErrorKind, message: &str) -> Result<Error, AllocError>
     ensures { IfOk result (λ e. kind_of e ≡ kind) }
 {
-    let mut command = seatdesk_command(alloc)?;
+    let Ok(mut command) = seatdesk_command(alloc) else {
+        return Err(AllocError);
+    };
     command.error(kind, message)
 }
 
@@ -206,124 +238,126 @@ fn job_of_command<'a>(
 {
     match command {
         Named::Ladder => Ok(Job::Ladder),
-        Named::Check => Ok(check_job(matches)),
-        Named::Flights => Ok(flights_job(matches)),
-        Named::Cover => Ok(Job::Cover(cover_asked(matches))),
-        Named::Rooms => Ok(Job::Rooms(rooms_asked(matches))),
+        Named::Check => check_job(matches),
+        Named::Flights => flights_job(matches),
+        Named::Cover => cover_job(matches),
+        Named::Rooms => rooms_job(matches),
         Named::Loads => loads_job(alloc, matches),
         Named::Run => run_job(alloc, matches),
         Named::Serve => serve_job(alloc, matches),
         Named::Route => route_job(alloc, matches),
         Named::Bookings => bookings_job(alloc, matches),
         Named::Waiting => waiting_job(alloc, matches),
-        Named::Pickup => Ok(Job::Pickup(pickup_asked(matches))),
-        Named::History => Ok(Job::History(history_asked(matches))),
-        Named::Avs => Ok(Job::Avs(avs_asked(matches))),
-        Named::Reconcile => Ok(Job::Reconcile(reconcile_asked(matches))),
-        Named::Compare => Ok(Job::Compare(compare_asked(matches))),
+        Named::Pickup => pickup_job(matches),
+        Named::History => history_job(matches),
+        Named::Avs => avs_job(matches),
+        Named::Reconcile => reconcile_job(matches),
+        Named::Compare => compare_job(matches),
         Named::Carry => carry_job(alloc, matches),
-        Named::Changes => Ok(Job::Changes(changes_asked(matches))),
+        Named::Changes => changes_job(matches),
         Named::Audit => audit_job(alloc, matches),
-        Named::Seal => Ok(seal_job(matches)),
-        Named::Recover => Ok(recover_job(matches)),
+        Named::Seal => seal_job(matches),
+        Named::Recover => recover_job(matches),
         Named::Replies => replies_job(alloc, matches),
-        Named::Told => Ok(Job::Told(told_asked(matches))),
-        Named::Why => Ok(why_job(matches)),
+        Named::Told => told_job(matches),
+        Named::Why => why_job(matches),
         Named::Explain => explain_job(alloc, matches),
-        Named::Season => Ok(season_job(matches)),
+        Named::Season => season_job(matches),
     }
 }
 
-fn check_job<'a>(matches: &ArgMatches<'a>) -> Job<'a>
+fn check_job<'a>(matches: &ArgMatches<'a>) -> Result<Job<'a>, AllocError>
     requires { has_values (values_of named.Check) (rows_of (found_of matches.now)) ≡ true }
-    ensures { Asks result (codes "check", rows_of (found_of matches.now)) }
+    ensures { IfOk result (λ job. Asks job (codes "check", rows_of (found_of matches.now))) }
 {
-    Job::Check {
+    Ok(Job::Check {
         set: value_of(matches, "set"),
-    }
+    })
 }
 
-fn flights_job<'a>(matches: &ArgMatches<'a>) -> Job<'a>
+fn flights_job<'a>(matches: &ArgMatches<'a>) -> Result<Job<'a>, AllocError>
     requires { has_values (values_of named.Flights) (rows_of (found_of matches.now)) ≡ true }
-    ensures { Asks result (codes "flights", rows_of (found_of matches.now)) }
+    ensures { IfOk result (λ job. Asks job (codes "flights", rows_of (found_of matches.now))) }
 {
-    Job::Flights {
+    Ok(Job::Flights {
         set: value_of(matches, "set"),
         first: value_of(matches, "first"),
         days: value_of(matches, "days"),
         shape: shape_of(matches),
-    }
+    })
 }
 
-fn seal_job<'a>(matches: &ArgMatches<'a>) -> Job<'a>
+fn seal_job<'a>(matches: &ArgMatches<'a>) -> Result<Job<'a>, AllocError>
     requires { has_values (values_of named.Seal) (rows_of (found_of matches.now)) ≡ true }
-    ensures { Asks result (codes "seal", rows_of (found_of matches.now)) }
+    ensures { IfOk result (λ job. Asks job (codes "seal", rows_of (found_of matches.now))) }
 {
-    Job::Seal {
+    Ok(Job::Seal {
         over: horizon_of(matches),
         journal: value_of(matches, "journal"),
-    }
+    })
 }
 
-fn recover_job<'a>(matches: &ArgMatches<'a>) -> Job<'a>
+fn recover_job<'a>(matches: &ArgMatches<'a>) -> Result<Job<'a>, AllocError>
     requires { has_values (values_of named.Recover) (rows_of (found_of matches.now)) ≡ true }
-    ensures { Asks result (codes "recover", rows_of (found_of matches.now)) }
+    ensures { IfOk result (λ job. Asks job (codes "recover", rows_of (found_of matches.now))) }
 {
-    Job::Recover {
+    Ok(Job::Recover {
         over: horizon_of(matches),
         cut: flag_of(matches, "cut"),
         journal: value_of(matches, "journal"),
-    }
+    })
 }
 
-fn why_job<'a>(matches: &ArgMatches<'a>) -> Job<'a>
+fn why_job<'a>(matches: &ArgMatches<'a>) -> Result<Job<'a>, AllocError>
     requires { has_values (values_of named.Why) (rows_of (found_of matches.now)) ≡ true }
-    ensures { Asks result (codes "why", rows_of (found_of matches.now)) }
+    ensures { IfOk result (λ job. Asks job (codes "why", rows_of (found_of matches.now))) }
 {
-    Job::Why {
+    Ok(Job::Why {
         over: horizon_of(matches),
         line: value_of(matches, "line"),
         is_open: flag_of(matches, "open"),
         journal: value_of(matches, "journal"),
-    }
+    })
 }
 
-fn season_job<'a>(matches: &ArgMatches<'a>) -> Job<'a>
+fn season_job<'a>(matches: &ArgMatches<'a>) -> Result<Job<'a>, AllocError>
     requires { has_values (values_of named.Season) (rows_of (found_of matches.now)) ≡ true }
-    ensures { Asks result (codes "season", rows_of (found_of matches.now)) }
+    ensures { IfOk result (λ job. Asks job (codes "season", rows_of (found_of matches.now))) }
 {
-    Job::Season {
+    Ok(Job::Season {
         set: value_of(matches, "set"),
         limits: value_of(matches, "limits"),
-    }
+    })
 }
 
 fn explain_job<'a>(alloc: Global, matches: &ArgMatches<'a>) -> Result<Job<'a>, AllocError>
     requires { has_values (values_of named.Explain) (rows_of (found_of matches.now)) ≡ true }
     ensures { IfOk result (λ job. Asks job (codes "explain", rows_of (found_of matches.now))) }
 {
-    let numbers = any_values_of(alloc, matches, "numbers")?;
+    let Ok(numbers) = any_values_of(alloc, matches, "numbers") else {
+        return Err(AllocError);
+    };
     Ok(Job::Explain {
         code: value_of(matches, "code"),
         numbers,
     })
 }
 
-fn cover_asked<'a>(matches: &ArgMatches<'a>) -> CoverJob<'a>
+fn cover_job<'a>(matches: &ArgMatches<'a>) -> Result<Job<'a>, AllocError>
     requires { has_values (values_of named.Cover) (rows_of (found_of matches.now)) ≡ true }
-    ensures { IsCover (rows_of (found_of matches.now)) result }
+    ensures { IfOk result (λ job. Asks job (codes "cover", rows_of (found_of matches.now))) }
 {
-    CoverJob {
+    Ok(Job::Cover(CoverJob {
         over: horizon_of(matches),
         shape: shape_of(matches),
-    }
+    }))
 }
 
-fn rooms_asked<'a>(matches: &ArgMatches<'a>) -> RoomsJob<'a>
+fn rooms_job<'a>(matches: &ArgMatches<'a>) -> Result<Job<'a>, AllocError>
     requires { has_values (values_of named.Rooms) (rows_of (found_of matches.now)) ≡ true }
-    ensures { IsRooms (rows_of (found_of matches.now)) result }
+    ensures { IfOk result (λ job. Asks job (codes "rooms", rows_of (found_of matches.now))) }
 {
-    RoomsJob {
+    Ok(Job::Rooms(RoomsJob {
         over: horizon_of(matches),
         day: may_value_of(matches, "day"),
         pair: may_value_of(matches, "pair"),
@@ -331,14 +365,16 @@ fn rooms_asked<'a>(matches: &ArgMatches<'a>) -> RoomsJob<'a>
         shape: shape_of(matches),
         is_open: flag_of(matches, "open"),
         journal: may_value_of(matches, "journal"),
-    }
+    }))
 }
 
 fn loads_job<'a>(alloc: Global, matches: &ArgMatches<'a>) -> Result<Job<'a>, AllocError>
     requires { has_values (values_of named.Loads) (rows_of (found_of matches.now)) ≡ true }
     ensures { IfOk result (λ job. Asks job (codes "loads", rows_of (found_of matches.now))) }
 {
-    let others = any_values_of(alloc, matches, "others")?;
+    let Ok(others) = any_values_of(alloc, matches, "others") else {
+        return Err(AllocError);
+    };
     Ok(Job::Loads(LoadsJob {
         over: horizon_of(matches),
         flight: may_value_of(matches, "flight"),
@@ -359,7 +395,9 @@ fn run_job<'a>(alloc: Global, matches: &ArgMatches<'a>) -> Result<Job<'a>, Alloc
     requires { has_values (values_of named.Run) (rows_of (found_of matches.now)) ≡ true }
     ensures { IfOk result (λ job. Asks job (codes "run", rows_of (found_of matches.now))) }
 {
-    let scripts = any_values_of(alloc, matches, "scripts")?;
+    let Ok(scripts) = any_values_of(alloc, matches, "scripts") else {
+        return Err(AllocError);
+    };
     Ok(Job::Run(RunJob {
         over: horizon_of(matches),
         after: may_value_of(matches, "after"),
@@ -379,7 +417,9 @@ fn serve_job<'a>(alloc: Global, matches: &ArgMatches<'a>) -> Result<Job<'a>, All
     requires { has_values (values_of named.Serve) (rows_of (found_of matches.now)) ≡ true }
     ensures { IfOk result (λ job. Asks job (codes "serve", rows_of (found_of matches.now))) }
 {
-    let desks = any_values_of(alloc, matches, "desk")?;
+    let Ok(desks) = any_values_of(alloc, matches, "desk") else {
+        return Err(AllocError);
+    };
     Ok(Job::Serve(ServeJob {
         over: horizon_of(matches),
         today: may_value_of(matches, "today"),
@@ -398,7 +438,9 @@ fn route_job<'a>(alloc: Global, matches: &ArgMatches<'a>) -> Result<Job<'a>, All
     requires { has_values (values_of named.Route) (rows_of (found_of matches.now)) ≡ true }
     ensures { IfOk result (λ job. Asks job (codes "route", rows_of (found_of matches.now))) }
 {
-    let scripts = any_values_of(alloc, matches, "scripts")?;
+    let Ok(scripts) = any_values_of(alloc, matches, "scripts") else {
+        return Err(AllocError);
+    };
     let changes = may_value_of(matches, "changes");
     Ok(Job::Route(RouteJob {
         shards: value_of(matches, "shards"),
@@ -411,7 +453,9 @@ fn bookings_job<'a>(alloc: Global, matches: &ArgMatches<'a>) -> Result<Job<'a>, 
     requires { has_values (values_of named.Bookings) (rows_of (found_of matches.now)) ≡ true }
     ensures { IfOk result (λ job. Asks job (codes "bookings", rows_of (found_of matches.now))) }
 {
-    let locators = any_values_of(alloc, matches, "locator")?;
+    let Ok(locators) = any_values_of(alloc, matches, "locator") else {
+        return Err(AllocError);
+    };
     Ok(Job::Bookings(BookingsJob {
         over: horizon_of(matches),
         locators,
@@ -427,7 +471,9 @@ fn waiting_job<'a>(alloc: Global, matches: &ArgMatches<'a>) -> Result<Job<'a>, A
     requires { has_values (values_of named.Waiting) (rows_of (found_of matches.now)) ≡ true }
     ensures { IfOk result (λ job. Asks job (codes "waiting", rows_of (found_of matches.now))) }
 {
-    let others = any_values_of(alloc, matches, "others")?;
+    let Ok(others) = any_values_of(alloc, matches, "others") else {
+        return Err(AllocError);
+    };
     Ok(Job::Waiting(WaitingJob {
         over: horizon_of(matches),
         flight: may_value_of(matches, "flight"),
@@ -440,11 +486,11 @@ fn waiting_job<'a>(alloc: Global, matches: &ArgMatches<'a>) -> Result<Job<'a>, A
     }))
 }
 
-fn pickup_asked<'a>(matches: &ArgMatches<'a>) -> PickupJob<'a>
+fn pickup_job<'a>(matches: &ArgMatches<'a>) -> Result<Job<'a>, AllocError>
     requires { has_values (values_of named.Pickup) (rows_of (found_of matches.now)) ≡ true }
-    ensures { IsPickup (rows_of (found_of matches.now)) result }
+    ensures { IfOk result (λ job. Asks job (codes "pickup", rows_of (found_of matches.now))) }
 {
-    PickupJob {
+    Ok(Job::Pickup(PickupJob {
         over: horizon_of(matches),
         behind: may_value_of(matches, "behind"),
         since: may_value_of(matches, "since"),
@@ -453,14 +499,14 @@ fn pickup_asked<'a>(matches: &ArgMatches<'a>) -> PickupJob<'a>
         shape: shape_of(matches),
         is_open: flag_of(matches, "open"),
         journal: value_of(matches, "journal"),
-    }
+    }))
 }
 
-fn history_asked<'a>(matches: &ArgMatches<'a>) -> HistoryJob<'a>
+fn history_job<'a>(matches: &ArgMatches<'a>) -> Result<Job<'a>, AllocError>
     requires { has_values (values_of named.History) (rows_of (found_of matches.now)) ≡ true }
-    ensures { IsHistory (rows_of (found_of matches.now)) result }
+    ensures { IfOk result (λ job. Asks job (codes "history", rows_of (found_of matches.now))) }
 {
-    HistoryJob {
+    Ok(Job::History(HistoryJob {
         over: horizon_of(matches),
         locator: may_value_of(matches, "locator"),
         flight: may_value_of(matches, "flight"),
@@ -468,14 +514,14 @@ fn history_asked<'a>(matches: &ArgMatches<'a>) -> HistoryJob<'a>
         shape: shape_of(matches),
         is_open: flag_of(matches, "open"),
         journal: value_of(matches, "journal"),
-    }
+    }))
 }
 
-fn avs_asked<'a>(matches: &ArgMatches<'a>) -> AvsJob<'a>
+fn avs_job<'a>(matches: &ArgMatches<'a>) -> Result<Job<'a>, AllocError>
     requires { has_values (values_of named.Avs) (rows_of (found_of matches.now)) ≡ true }
-    ensures { IsAvs (rows_of (found_of matches.now)) result }
+    ensures { IfOk result (λ job. Asks job (codes "avs", rows_of (found_of matches.now))) }
 {
-    AvsJob {
+    Ok(Job::Avs(AvsJob {
         horizon: horizon_of(matches),
         since: may_value_of(matches, "since"),
         numeric: flag_of(matches, "numeric"),
@@ -484,39 +530,41 @@ fn avs_asked<'a>(matches: &ArgMatches<'a>) -> AvsJob<'a>
         day: may_value_of(matches, "day"),
         journal: value_of(matches, "journal"),
         is_open: flag_of(matches, "open"),
-    }
+    }))
 }
 
-fn reconcile_asked<'a>(matches: &ArgMatches<'a>) -> ReconcileJob<'a>
+fn reconcile_job<'a>(matches: &ArgMatches<'a>) -> Result<Job<'a>, AllocError>
     requires { has_values (values_of named.Reconcile) (rows_of (found_of matches.now)) ≡ true }
-    ensures { IsReconcile (rows_of (found_of matches.now)) result }
+    ensures { IfOk result (λ job. Asks job (codes "reconcile", rows_of (found_of matches.now))) }
 {
-    ReconcileJob {
+    Ok(Job::Reconcile(ReconcileJob {
         horizon: horizon_of(matches),
         session: may_value_of(matches, "session"),
         all: flag_of(matches, "all"),
         theirs: value_of(matches, "theirs"),
         journal: value_of(matches, "journal"),
         is_open: flag_of(matches, "open"),
-    }
+    }))
 }
 
-fn compare_asked<'a>(matches: &ArgMatches<'a>) -> CompareJob<'a>
+fn compare_job<'a>(matches: &ArgMatches<'a>) -> Result<Job<'a>, AllocError>
     requires { has_values (values_of named.Compare) (rows_of (found_of matches.now)) ≡ true }
-    ensures { IsCompare (rows_of (found_of matches.now)) result }
+    ensures { IfOk result (λ job. Asks job (codes "compare", rows_of (found_of matches.now))) }
 {
-    CompareJob {
+    Ok(Job::Compare(CompareJob {
         from: value_of(matches, "from"),
         to: value_of(matches, "to"),
         journal: may_value_of(matches, "journal"),
-    }
+    }))
 }
 
 fn carry_job<'a>(alloc: Global, matches: &ArgMatches<'a>) -> Result<Job<'a>, AllocError>
     requires { has_values (values_of named.Carry) (rows_of (found_of matches.now)) ≡ true }
     ensures { IfOk result (λ job. Asks job (codes "carry", rows_of (found_of matches.now))) }
 {
-    let others = any_values_of(alloc, matches, "others")?;
+    let Ok(others) = any_values_of(alloc, matches, "others") else {
+        return Err(AllocError);
+    };
     Ok(Job::Carry(CarryJob {
         from: value_of(matches, "from"),
         to: value_of(matches, "to"),
@@ -535,11 +583,11 @@ fn carry_job<'a>(alloc: Global, matches: &ArgMatches<'a>) -> Result<Job<'a>, All
     }))
 }
 
-fn changes_asked<'a>(matches: &ArgMatches<'a>) -> ChangesJob<'a>
+fn changes_job<'a>(matches: &ArgMatches<'a>) -> Result<Job<'a>, AllocError>
     requires { has_values (values_of named.Changes) (rows_of (found_of matches.now)) ≡ true }
-    ensures { IsChanges (rows_of (found_of matches.now)) result }
+    ensures { IfOk result (λ job. Asks job (codes "changes", rows_of (found_of matches.now))) }
 {
-    ChangesJob {
+    Ok(Job::Changes(ChangesJob {
         over: horizon_of(matches),
         wanted: value_of(matches, "to"),
         flight: may_value_of(matches, "flight"),
@@ -547,14 +595,16 @@ fn changes_asked<'a>(matches: &ArgMatches<'a>) -> ChangesJob<'a>
         pair: may_value_of(matches, "pair"),
         is_open: flag_of(matches, "open"),
         journal: value_of(matches, "journal"),
-    }
+    }))
 }
 
 fn audit_job<'a>(alloc: Global, matches: &ArgMatches<'a>) -> Result<Job<'a>, AllocError>
     requires { has_values (values_of named.Audit) (rows_of (found_of matches.now)) ≡ true }
     ensures { IfOk result (λ job. Asks job (codes "audit", rows_of (found_of matches.now))) }
 {
-    let scripts = any_values_of(alloc, matches, "scripts")?;
+    let Ok(scripts) = any_values_of(alloc, matches, "scripts") else {
+        return Err(AllocError);
+    };
     Ok(Job::Audit(AuditJob {
         over: horizon_of(matches),
         after: may_value_of(matches, "after"),
@@ -573,7 +623,9 @@ fn replies_job<'a>(alloc: Global, matches: &ArgMatches<'a>) -> Result<Job<'a>, A
     requires { has_values (values_of named.Replies) (rows_of (found_of matches.now)) ≡ true }
     ensures { IfOk result (λ job. Asks job (codes "replies", rows_of (found_of matches.now))) }
 {
-    let scripts = any_values_of(alloc, matches, "scripts")?;
+    let Ok(scripts) = any_values_of(alloc, matches, "scripts") else {
+        return Err(AllocError);
+    };
     Ok(Job::Replies(RepliesJob {
         over: horizon_of(matches),
         after: may_value_of(matches, "after"),
@@ -588,17 +640,17 @@ fn replies_job<'a>(alloc: Global, matches: &ArgMatches<'a>) -> Result<Job<'a>, A
     }))
 }
 
-fn told_asked<'a>(matches: &ArgMatches<'a>) -> ToldJob<'a>
+fn told_job<'a>(matches: &ArgMatches<'a>) -> Result<Job<'a>, AllocError>
     requires { has_values (values_of named.Told) (rows_of (found_of matches.now)) ≡ true }
-    ensures { IsTold (rows_of (found_of matches.now)) result }
+    ensures { IfOk result (λ job. Asks job (codes "told", rows_of (found_of matches.now))) }
 {
-    ToldJob {
+    Ok(Job::Told(ToldJob {
         over: horizon_of(matches),
         desk: value_of(matches, "desk"),
         from: may_value_of(matches, "from"),
         is_open: flag_of(matches, "open"),
         journal: value_of(matches, "journal"),
-    }
+    }))
 }
 
 fn shape_of(matches: &ArgMatches<'_>) -> Shape

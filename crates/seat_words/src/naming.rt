@@ -34,13 +34,13 @@ pub(crate) enum Named {
 }
 
 /// A command, and the word that names it.
-struct Name {
+pub(crate) struct Name {
     word: &'static str,
-    named: Named,
+    pub(crate) named: Named,
 }
 
 /// The commands of the program.
-const NAMES: &[Name] = &[
+pub(crate) const NAMES: &[Name] = &[
     Name {
         word: "ladder",
         named: Named::Ladder,

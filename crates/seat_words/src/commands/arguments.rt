@@ -1,7 +1,7 @@
 //! What a command is made of: its name, its help, its options and its other words.
 ghost use Rattle.std.specs.Prelude.{IfOk, IsOkAnd};
 ghost use Rattle.clap.specs.Words.{AddsArg, App, new_app};
-ghost use Rattle.seat_words.specs.CommandLine.{IsBuiltAs, IsReadAlike, IsReadAs, flag, horizon_app, lettered_flag, optional, optional_several, optional_value, optional_values, trailing_values, required_option, required_value, rule_as, with_arguments};
+ghost use Rattle.seat_words.specs.CommandLine.{IsBuiltAs, IsReadAlike, IsReadAs, app_as, flag, lettered_flag, optional, optional_several, optional_value, optional_values, trailing_values, required_option, required_value, rule_as, with_arguments};
 
 use clap::{Arg, ArgAction, Command};
 use std::alloc::{AllocError, Global};
@@ -59,7 +59,8 @@ pub(super) enum Argument {
     Rest(&'static str, &'static str, &'static str),
 }
 
-const HORIZON: &[Argument] = &[
+/// The arguments of a command over the limits of the dated flights.
+pub(super) const HORIZON: &[Argument] = &[
     Argument::Wanted("set", "SET", SET_HELP),
     Argument::Wanted("limits", "LIMITS", LIMITS_HELP),
     Argument::Wanted("first", "DATE", FIRST_HELP),
@@ -67,21 +68,31 @@ const HORIZON: &[Argument] = &[
     Argument::Optional("season", "SEASON", SEASON_HELP),
 ];
 
-// A command over the limits of the dated flights.
-pub(super) fn horizon_command<'a>(
+/// One command: its name, what its help says before and behind its arguments, and these.
+pub(super) struct Described {
+    pub(super) name: &'static str,
+    pub(super) about: &'static str,
+    pub(super) more: &'static str,
+    /// Those of a horizon where it works over one, and else none.
+    pub(super) horizon: &'static [Argument],
+    /// Its own, behind them.
+    pub(super) arguments: &'static [Argument],
+}
+
+// The command that is so described, if it could be made.
+pub(super) fn described_command<'a>(
     alloc: Global,
-    name: &'a str,
-    about: &'a str,
-    more: &'a str,
+    described: &Described,
 ) -> Result<Command<'a>, AllocError>
-    ensures { IfOk result (IsBuiltAs (horizon_app name.entry.now)) }
+    ensures { IfOk result (IsBuiltAs (app_as described.now)) }
 {
-    let command = named_command(alloc, name, about, more);
-    with_arguments(alloc, Ok(command), HORIZON)
+    let command = named_command(alloc, described.name, described.about, described.more);
+    let command = with_arguments(alloc, Ok(command), described.horizon);
+    with_arguments(alloc, command, described.arguments)
 }
 
 // The command with these arguments, one after the other, if it could be made.
-pub(super) fn with_arguments<'a>(
+fn with_arguments<'a>(
     alloc: Global,
     command: Result<Command<'a>, AllocError>,
     arguments: &[Argument],
@@ -112,12 +123,7 @@ fn argument_of<'a>(alloc: Global, argument: &Argument) -> Arg<'a>
 
 // A command with what its help says before and behind its arguments.
 #[tactic(auto, using(crate::proofs::Building::alike))]
-pub(super) fn named_command<'a>(
-    alloc: Global,
-    name: &'a str,
-    about: &'a str,
-    more: &'a str,
-) -> Command<'a>
+fn named_command<'a>(alloc: Global, name: &'a str, about: &'a str, more: &'a str) -> Command<'a>
     ensures { IsBuiltAs (new_app name.entry.now) result }
 {
     let command = new_command(alloc, name);
@@ -150,7 +156,10 @@ pub(super) fn with_argument<'a>(
 ) -> Result<Command<'a>, AllocError>
     ensures { IfOk result (λ new. IsOkAnd command.entry (λ old. AddsArg old argument.entry new)) }
 {
-    command?.arg(argument)
+    let Ok(command) = command else {
+        return Err(AllocError);
+    };
+    command.arg(argument)
 }
 
 // A value by its place, which must be there.

@@ -1,13 +1,7 @@
 //! The command for controllers: which changes bring the limits to those that are wanted.
-ghost use Rattle.std.specs.Prelude.{IfOk};
-ghost use Rattle.seat_words.specs.CommandLine.{IsBuiltAs, changes_app};
 
 use crate::commands::arguments::Argument::{Flag, Optional, Wanted, WantedWord};
-use crate::commands::arguments::{
-    Argument, FLIGHT_HELP, JOURNAL_HELP, OPEN_HELP, horizon_command, with_arguments,
-};
-use clap::Command;
-use std::alloc::{AllocError, Global};
+use crate::commands::arguments::{Described, FLIGHT_HELP, HORIZON, JOURNAL_HELP, OPEN_HELP};
 
 const WANTED_HELP: &str = "The limits that are wanted, in rows as those of LIMITS (a file)";
 
@@ -15,23 +9,17 @@ const CHANGED_DAY_HELP: &str = "The legs that depart on this day alone, as 2024-
 
 const CHANGED_PAIR_HELP: &str = "The legs between these two stations alone, as LHRJFK";
 
-const CHANGES: &[Argument] = &[
-    Wanted("to", "WANTED", WANTED_HELP),
-    Optional("flight", "FLIGHT", FLIGHT_HELP),
-    Optional("day", "DATE", CHANGED_DAY_HELP),
-    Optional("pair", "PAIR", CHANGED_PAIR_HELP),
-    Flag("open", OPEN_HELP),
-    WantedWord("journal", "JOURNAL", JOURNAL_HELP),
-];
-
-pub(super) fn changes_command<'a>(alloc: Global) -> Result<Command<'a>, AllocError>
-    ensures { IfOk result (IsBuiltAs changes_app) }
-{
-    let changes = horizon_command(
-        alloc,
-        "changes",
-        "Writes the changes that bring the limits after a journal to those that are wanted",
-        "What it writes is a file for run --changes, in an order in which each change is accepted. No limit is cut below the seats that are\nheld: a line on standard error, SHORT, says where more are held than are wanted. What WANTED doesn't name stays as it is.\n\nExample: seatdesk changes --set examples/summer.ssim --limits examples/limits.txt --first 2024-07-01 --days 31 --to examples/wanted.txt examples/journal.txt",
-    );
-    with_arguments(alloc, changes, CHANGES)
-}
+pub(super) const CHANGES: &Described = &Described {
+    name: "changes",
+    about: "Writes the changes that bring the limits after a journal to those that are wanted",
+    more: "What it writes is a file for run --changes, in an order in which each change is accepted. No limit is cut below the seats that are\nheld: a line on standard error, SHORT, says where more are held than are wanted. What WANTED doesn't name stays as it is.\n\nExample: seatdesk changes --set examples/summer.ssim --limits examples/limits.txt --first 2024-07-01 --days 31 --to examples/wanted.txt examples/journal.txt",
+    horizon: HORIZON,
+    arguments: &[
+        Wanted("to", "WANTED", WANTED_HELP),
+        Optional("flight", "FLIGHT", FLIGHT_HELP),
+        Optional("day", "DATE", CHANGED_DAY_HELP),
+        Optional("pair", "PAIR", CHANGED_PAIR_HELP),
+        Flag("open", OPEN_HELP),
+        WantedWord("journal", "JOURNAL", JOURNAL_HELP),
+    ],
+};

@@ -1,14 +1,9 @@
 //! The commands that look at a journal's lines: whether they are right, and whom they tell of what.
-ghost use Rattle.std.specs.Prelude.{IfOk};
-ghost use Rattle.seat_words.specs.CommandLine.{IsBuiltAs, audit_app, replies_app, told_app, why_app};
 
 use crate::commands::arguments::Argument::{Flag, Optional, Wanted, WantedWord, Words};
 use crate::commands::arguments::{
-    Argument, CSV_HELP, JOURNAL_HELP, JSON_HELP, OPEN_HELP, SCRIPTS_HELP, TODAY_HELP,
-    horizon_command, with_arguments,
+    CSV_HELP, Described, HORIZON, JOURNAL_HELP, JSON_HELP, OPEN_HELP, SCRIPTS_HELP, TODAY_HELP,
 };
-use clap::Command;
-use std::alloc::{AllocError, Global};
 
 const OLDER_HELP: &str =
     "The journal that JOURNAL goes on from (a file); the scripts ask for the lines behind its own";
@@ -43,88 +38,64 @@ const SHARDS_HELP: &str =
 
 const LINE_HELP: &str = "The line of the journal, counted from 1";
 
-const AUDIT: &[Argument] = &[
-    Optional("after", "JOURNAL", OLDER_HELP),
-    Optional("behind", "N", BEHIND_HELP),
-    Optional("today", "DATE", TODAY_HELP),
-    Optional("refused", "FILE", REFUSED_HELP),
-    Flag("sealed", SEALED_HELP),
-    Flag("open", OPEN_AUDIT_HELP),
-    Flag("shards", SHARDS_HELP),
-    WantedWord("journal", "JOURNAL", JOURNAL_HELP),
-    Words("scripts", "SCRIPT", ASKED_HELP),
-];
+pub(super) const AUDIT: &Described = &Described {
+    name: "audit",
+    about: "Replays a journal against its schedule and limits, and writes one summary line",
+    more: "A journal belongs to its set, limits, first day and days. With the scripts audit sees whether they are those: over\nanother first day its lines are not what the scripts ask (P8). Where JOURNAL.seal stands beside JOURNAL, it is compared; --shards looks at no seal.\n\nExample: seatdesk audit --set examples/summer.ssim --limits examples/limits.txt --first 2024-07-01 --days 31 examples/journal.txt\n\nAgainst its scripts: seatdesk audit --set examples/summer.ssim --limits examples/limits.txt --first 2024-07-01 --days 31 --today 2024-06-20 examples/journal.txt examples/london.txt examples/lisbon.txt\n\nThe day after: seatdesk audit --set examples/summer.ssim --limits examples/limits.txt --first 2024-07-01 --days 31 --after examples/journal.txt --today 2024-06-21 journal-2.txt examples/london-2.txt\n\nOf several hosts: seatdesk audit --set examples/summer.ssim --limits examples/limits.txt --first 2024-07-01 --days 31 --shards examples/journal.txt journal-3.txt",
+    horizon: HORIZON,
+    arguments: &[
+        Optional("after", "JOURNAL", OLDER_HELP),
+        Optional("behind", "N", BEHIND_HELP),
+        Optional("today", "DATE", TODAY_HELP),
+        Optional("refused", "FILE", REFUSED_HELP),
+        Flag("sealed", SEALED_HELP),
+        Flag("open", OPEN_AUDIT_HELP),
+        Flag("shards", SHARDS_HELP),
+        WantedWord("journal", "JOURNAL", JOURNAL_HELP),
+        Words("scripts", "SCRIPT", ASKED_HELP),
+    ],
+};
 
-pub(super) fn audit_command<'a>(alloc: Global) -> Result<Command<'a>, AllocError>
-    ensures { IfOk result (IsBuiltAs audit_app) }
-{
-    let audit = horizon_command(
-        alloc,
-        "audit",
-        "Replays a journal against its schedule and limits, and writes one summary line",
-        "A journal belongs to its set, limits, first day and days. With the scripts audit sees whether they are those: over\nanother first day its lines are not what the scripts ask (P8). Where JOURNAL.seal stands beside JOURNAL, it is compared; --shards looks at no seal.\n\nExample: seatdesk audit --set examples/summer.ssim --limits examples/limits.txt --first 2024-07-01 --days 31 examples/journal.txt\n\nAgainst its scripts: seatdesk audit --set examples/summer.ssim --limits examples/limits.txt --first 2024-07-01 --days 31 --today 2024-06-20 examples/journal.txt examples/london.txt examples/lisbon.txt\n\nThe day after: seatdesk audit --set examples/summer.ssim --limits examples/limits.txt --first 2024-07-01 --days 31 --after examples/journal.txt --today 2024-06-21 journal-2.txt examples/london-2.txt\n\nOf several hosts: seatdesk audit --set examples/summer.ssim --limits examples/limits.txt --first 2024-07-01 --days 31 --shards examples/journal.txt journal-3.txt",
-    );
-    with_arguments(alloc, audit, AUDIT)
-}
+pub(super) const REPLIES: &Described = &Described {
+    name: "replies",
+    about: "Writes the replies of a run once more, from its journal and its scripts",
+    more: "It writes what run wrote to standard output, and refuses what audit refuses with the same words.\n\nExample: seatdesk replies --set examples/summer.ssim --limits examples/limits.txt --first 2024-07-01 --days 31 --today 2024-06-20 examples/journal.txt examples/london.txt examples/lisbon.txt",
+    horizon: HORIZON,
+    arguments: &[
+        Optional("after", "JOURNAL", REPLIED_HELP),
+        Optional("behind", "N", BEHIND_HELP),
+        Wanted("today", "DATE", TODAY_HELP),
+        Optional("refused", "FILE", REFUSED_HELP),
+        Optional("session", "N", SESSION_HELP),
+        Optional("from", "LINE", FROM_HELP),
+        Flag("csv", CSV_HELP),
+        Flag("json", JSON_HELP),
+        WantedWord("journal", "JOURNAL", JOURNAL_HELP),
+        Words("scripts", "SCRIPT", SCRIPTS_HELP),
+    ],
+};
 
-const REPLIES: &[Argument] = &[
-    Optional("after", "JOURNAL", REPLIED_HELP),
-    Optional("behind", "N", BEHIND_HELP),
-    Wanted("today", "DATE", TODAY_HELP),
-    Optional("refused", "FILE", REFUSED_HELP),
-    Optional("session", "N", SESSION_HELP),
-    Optional("from", "LINE", FROM_HELP),
-    Flag("csv", CSV_HELP),
-    Flag("json", JSON_HELP),
-    WantedWord("journal", "JOURNAL", JOURNAL_HELP),
-    Words("scripts", "SCRIPT", SCRIPTS_HELP),
-];
+pub(super) const TOLD: &Described = &Described {
+    name: "told",
+    about: "Writes what a desk is told of a journal: the replies to its lines, and the advices to its bookings",
+    more: "A desk is told of its own alone, each under its own session and the number of the line that is told of.\n\nExample: seatdesk told --set examples/summer.ssim --limits examples/limits.txt --first 2024-07-01 --days 31 --desk 2 examples/journal.txt",
+    horizon: HORIZON,
+    arguments: &[
+        Wanted("desk", "N", DESK_HELP),
+        Optional("from", "LINE", TOLD_HELP),
+        Flag("open", OPEN_HELP),
+        WantedWord("journal", "JOURNAL", JOURNAL_HELP),
+    ],
+};
 
-pub(super) fn replies_command<'a>(alloc: Global) -> Result<Command<'a>, AllocError>
-    ensures { IfOk result (IsBuiltAs replies_app) }
-{
-    let replies = horizon_command(
-        alloc,
-        "replies",
-        "Writes the replies of a run once more, from its journal and its scripts",
-        "It writes what run wrote to standard output, and refuses what audit refuses with the same words.\n\nExample: seatdesk replies --set examples/summer.ssim --limits examples/limits.txt --first 2024-07-01 --days 31 --today 2024-06-20 examples/journal.txt examples/london.txt examples/lisbon.txt",
-    );
-    with_arguments(alloc, replies, REPLIES)
-}
-
-const TOLD: &[Argument] = &[
-    Wanted("desk", "N", DESK_HELP),
-    Optional("from", "LINE", TOLD_HELP),
-    Flag("open", OPEN_HELP),
-    WantedWord("journal", "JOURNAL", JOURNAL_HELP),
-];
-
-pub(super) fn told_command<'a>(alloc: Global) -> Result<Command<'a>, AllocError>
-    ensures { IfOk result (IsBuiltAs told_app) }
-{
-    let told = horizon_command(
-        alloc,
-        "told",
-        "Writes what a desk is told of a journal: the replies to its lines, and the advices to its bookings",
-        "A desk is told of its own alone, each under its own session and the number of the line that is told of.\n\nExample: seatdesk told --set examples/summer.ssim --limits examples/limits.txt --first 2024-07-01 --days 31 --desk 2 examples/journal.txt",
-    );
-    with_arguments(alloc, told, TOLD)
-}
-
-const WHY: &[Argument] = &[
-    Wanted("line", "N", LINE_HELP),
-    Flag("open", OPEN_HELP),
-    WantedWord("journal", "JOURNAL", JOURNAL_HELP),
-];
-
-pub(super) fn why_command<'a>(alloc: Global) -> Result<Command<'a>, AllocError>
-    ensures { IfOk result (IsBuiltAs why_app) }
-{
-    let why = horizon_command(
-        alloc,
-        "why",
-        "Writes the reason of one reply of a journal: what the limits left, and the right answer",
-        "Only the lines before it need be right, so it explains the line that audit refuses.\n\nExample: seatdesk why --set examples/summer.ssim --limits examples/limits.txt --first 2024-07-01 --days 31 --line 6 examples/journal.txt",
-    );
-    with_arguments(alloc, why, WHY)
-}
+pub(super) const WHY: &Described = &Described {
+    name: "why",
+    about: "Writes the reason of one reply of a journal: what the limits left, and the right answer",
+    more: "Only the lines before it need be right, so it explains the line that audit refuses.\n\nExample: seatdesk why --set examples/summer.ssim --limits examples/limits.txt --first 2024-07-01 --days 31 --line 6 examples/journal.txt",
+    horizon: HORIZON,
+    arguments: &[
+        Wanted("line", "N", LINE_HELP),
+        Flag("open", OPEN_HELP),
+        WantedWord("journal", "JOURNAL", JOURNAL_HELP),
+    ],
+};

@@ -1,13 +1,7 @@
 //! The commands for partners: what they are to show as available, and where their lists differ.
-ghost use Rattle.std.specs.Prelude.{IfOk};
-ghost use Rattle.seat_words.specs.CommandLine.{IsBuiltAs, avs_app, reconcile_app};
 
 use crate::commands::arguments::Argument::{Flag, Optional, WantedWord};
-use crate::commands::arguments::{
-    Argument, FLIGHT_HELP, JOURNAL_HELP, OPEN_HELP, horizon_command, with_arguments,
-};
-use clap::Command;
-use std::alloc::{AllocError, Global};
+use crate::commands::arguments::{Described, FLIGHT_HELP, HORIZON, JOURNAL_HELP, OPEN_HELP};
 
 const SINCE_HELP: &str = "An older JOURNAL (a file): only what changed behind its lines is written";
 
@@ -24,44 +18,32 @@ const ALL_HELP: &str = "THEIRS is to have all live bookings";
 
 const THEIRS_HELP: &str = "The list of a partner or a desk, as bookings writes one (a file)";
 
-const AVS: &[Argument] = &[
-    Optional("since", "OLDER", SINCE_HELP),
-    Flag("numeric", NUMERIC_HELP),
-    Optional("partner", "FILE", PARTNER_HELP),
-    Optional("flight", "FLIGHT", FLIGHT_HELP),
-    Optional("day", "DATE", SEGMENT_DAY_HELP),
-    Flag("open", OPEN_HELP),
-    WantedWord("journal", "JOURNAL", JOURNAL_HELP),
-];
+pub(super) const AVS: &Described = &Described {
+    name: "avs",
+    about: "Writes what partners are to show as available: the status of each segment and class",
+    more: "Example: seatdesk avs --set examples/summer.ssim --limits examples/limits.txt --first 2024-07-01 --days 31 examples/journal.txt\n\nWhat a night changed: seatdesk avs --set examples/summer.ssim --limits examples/limits.txt --first 2024-07-01 --days 31 --since examples/journal.txt --numeric journal-2.txt",
+    horizon: HORIZON,
+    arguments: &[
+        Optional("since", "OLDER", SINCE_HELP),
+        Flag("numeric", NUMERIC_HELP),
+        Optional("partner", "FILE", PARTNER_HELP),
+        Optional("flight", "FLIGHT", FLIGHT_HELP),
+        Optional("day", "DATE", SEGMENT_DAY_HELP),
+        Flag("open", OPEN_HELP),
+        WantedWord("journal", "JOURNAL", JOURNAL_HELP),
+    ],
+};
 
-pub(super) fn avs_command<'a>(alloc: Global) -> Result<Command<'a>, AllocError>
-    ensures { IfOk result (IsBuiltAs avs_app) }
-{
-    let avs = horizon_command(
-        alloc,
-        "avs",
-        "Writes what partners are to show as available: the status of each segment and class",
-        "Example: seatdesk avs --set examples/summer.ssim --limits examples/limits.txt --first 2024-07-01 --days 31 examples/journal.txt\n\nWhat a night changed: seatdesk avs --set examples/summer.ssim --limits examples/limits.txt --first 2024-07-01 --days 31 --since examples/journal.txt --numeric journal-2.txt",
-    );
-    with_arguments(alloc, avs, AVS)
-}
-
-const RECONCILE: &[Argument] = &[
-    Optional("session", "N", SESSION_HELP),
-    Flag("all", ALL_HELP),
-    Flag("open", OPEN_HELP),
-    WantedWord("theirs", "THEIRS", THEIRS_HELP),
-    WantedWord("journal", "JOURNAL", JOURNAL_HELP),
-];
-
-pub(super) fn reconcile_command<'a>(alloc: Global) -> Result<Command<'a>, AllocError>
-    ensures { IfOk result (IsBuiltAs reconcile_app) }
-{
-    let reconcile = horizon_command(
-        alloc,
-        "reconcile",
-        "Writes where the list of a partner or a desk differs from the bookings of a journal",
-        "One of --session and --all says whose bookings the list is to have. The status is 1 where anything differs.\n\nExample: seatdesk reconcile --set examples/summer.ssim --limits examples/limits.txt --first 2024-07-01 --days 31 --session 2 theirs.txt examples/journal.txt",
-    );
-    with_arguments(alloc, reconcile, RECONCILE)
-}
+pub(super) const RECONCILE: &Described = &Described {
+    name: "reconcile",
+    about: "Writes where the list of a partner or a desk differs from the bookings of a journal",
+    more: "One of --session and --all says whose bookings the list is to have. The status is 1 where anything differs.\n\nExample: seatdesk reconcile --set examples/summer.ssim --limits examples/limits.txt --first 2024-07-01 --days 31 --session 2 theirs.txt examples/journal.txt",
+    horizon: HORIZON,
+    arguments: &[
+        Optional("session", "N", SESSION_HELP),
+        Flag("all", ALL_HELP),
+        Flag("open", OPEN_HELP),
+        WantedWord("theirs", "THEIRS", THEIRS_HELP),
+        WantedWord("journal", "JOURNAL", JOURNAL_HELP),
+    ],
+};

@@ -1,16 +1,11 @@
 //! The commands that ask what a journal comes to.
-ghost use Rattle.std.specs.Prelude.{IfOk};
-ghost use Rattle.seat_words.specs.CommandLine.{IsBuiltAs, bookings_app, history_app, loads_app, pickup_app, rooms_app, waiting_app};
 
 use crate::commands::arguments::Argument::{
     Flag, Optional, OptionalWord, Several, WantedWord, Words,
 };
 use crate::commands::arguments::{
-    Argument, CSV_HELP, FLIGHT_HELP, JOURNAL_HELP, JSON_HELP, OPEN_HELP, horizon_command,
-    with_arguments,
+    CSV_HELP, Described, FLIGHT_HELP, HORIZON, JOURNAL_HELP, JSON_HELP, OPEN_HELP,
 };
-use clap::Command;
-use std::alloc::{AllocError, Global};
 
 const DAY_HELP: &str = "The places that depart on this day alone, as 2024-06-01";
 
@@ -51,141 +46,105 @@ const HISTORY_LOCATOR_HELP: &str = "The locator: six letters and digits, as W8Y3
 const LOCATOR_HELP: &str =
     "The bookings of this locator alone: six letters and digits, as B3N6VC; more than once, those of any of these";
 
-const ROOMS: &[Argument] = &[
-    Optional("day", "DATE", DAY_HELP),
-    Optional("pair", "PAIR", PAIR_HELP),
-    Flag("bars", BARS_HELP),
-    Flag("csv", CSV_HELP),
-    Flag("json", JSON_HELP),
-    Flag("open", OPEN_HELP),
-    OptionalWord("journal", "JOURNAL", OPENING_HELP),
-];
+pub(super) const ROOMS: &Described = &Described {
+    name: "rooms",
+    about: "Writes the seats that are left on each place of a flight, by class",
+    more: "Example: seatdesk rooms --set examples/summer.ssim --limits examples/limits.txt --first 2024-07-01 --days 31 --day 2024-07-27 --pair LHRKEF examples/journal.txt",
+    horizon: HORIZON,
+    arguments: &[
+        Optional("day", "DATE", DAY_HELP),
+        Optional("pair", "PAIR", PAIR_HELP),
+        Flag("bars", BARS_HELP),
+        Flag("csv", CSV_HELP),
+        Flag("json", JSON_HELP),
+        Flag("open", OPEN_HELP),
+        OptionalWord("journal", "JOURNAL", OPENING_HELP),
+    ],
+};
 
-pub(super) fn rooms_command<'a>(alloc: Global) -> Result<Command<'a>, AllocError>
-    ensures { IfOk result (IsBuiltAs rooms_app) }
-{
-    let rooms = horizon_command(
-        alloc,
-        "rooms",
-        "Writes the seats that are left on each place of a flight, by class",
-        "Example: seatdesk rooms --set examples/summer.ssim --limits examples/limits.txt --first 2024-07-01 --days 31 --day 2024-07-27 --pair LHRKEF examples/journal.txt",
-    );
-    with_arguments(alloc, rooms, ROOMS)
-}
+pub(super) const LOADS: &Described = &Described {
+    name: "loads",
+    about: "Writes how full each dated leg is, by class, and what all of them come to",
+    more: "Example: seatdesk loads --set examples/summer.ssim --limits examples/limits.txt --first 2024-07-01 --days 31 --day 2024-07-27 examples/journal.txt\n\nOf several hosts: seatdesk loads --set examples/summer.ssim --limits examples/limits.txt --first 2024-07-01 --days 31 --shards examples/journal.txt journal-3.txt",
+    horizon: HORIZON,
+    arguments: &[
+        Optional("flight", "FLIGHT", FLIGHT_HELP),
+        Optional("day", "DATE", LEG_DAY_HELP),
+        Optional("pair", "PAIR", LEG_PAIR_HELP),
+        Optional("by", "BY", BY_HELP),
+        Flag("bars", BARS_HELP),
+        Flag("csv", CSV_HELP),
+        Flag("json", JSON_HELP),
+        Flag("html", HTML_HELP),
+        Flag("open", OPEN_HELP),
+        Flag("shards", SHARDS_HELP),
+        OptionalWord("journal", "JOURNAL", OPENING_LOADS_HELP),
+        Words("others", "OTHER", OTHER_HELP),
+    ],
+};
 
-const LOADS: &[Argument] = &[
-    Optional("flight", "FLIGHT", FLIGHT_HELP),
-    Optional("day", "DATE", LEG_DAY_HELP),
-    Optional("pair", "PAIR", LEG_PAIR_HELP),
-    Optional("by", "BY", BY_HELP),
-    Flag("bars", BARS_HELP),
-    Flag("csv", CSV_HELP),
-    Flag("json", JSON_HELP),
-    Flag("html", HTML_HELP),
-    Flag("open", OPEN_HELP),
-    Flag("shards", SHARDS_HELP),
-    OptionalWord("journal", "JOURNAL", OPENING_LOADS_HELP),
-    Words("others", "OTHER", OTHER_HELP),
-];
+pub(super) const BOOKINGS: &Described = &Described {
+    name: "bookings",
+    about: "Writes live bookings, of locators or of a flight, in the codes of AIRIMP",
+    more: "Example: seatdesk bookings --set examples/summer.ssim --limits examples/limits.txt --first 2024-07-01 --days 31 --locator B3N6VC examples/journal.txt",
+    horizon: HORIZON,
+    arguments: &[
+        Several("locator", "LOCATOR", LOCATOR_HELP),
+        Optional("flight", "FLIGHT", FLIGHT_HELP),
+        Optional("day", "DATE", DAY_HELP),
+        Flag("csv", CSV_HELP),
+        Flag("json", JSON_HELP),
+        Flag("open", OPEN_HELP),
+        WantedWord("journal", "JOURNAL", JOURNAL_HELP),
+    ],
+};
 
-pub(super) fn loads_command<'a>(alloc: Global) -> Result<Command<'a>, AllocError>
-    ensures { IfOk result (IsBuiltAs loads_app) }
-{
-    let loads = horizon_command(
-        alloc,
-        "loads",
-        "Writes how full each dated leg is, by class, and what all of them come to",
-        "Example: seatdesk loads --set examples/summer.ssim --limits examples/limits.txt --first 2024-07-01 --days 31 --day 2024-07-27 examples/journal.txt\n\nOf several hosts: seatdesk loads --set examples/summer.ssim --limits examples/limits.txt --first 2024-07-01 --days 31 --shards examples/journal.txt journal-3.txt",
-    );
-    with_arguments(alloc, loads, LOADS)
-}
+pub(super) const WAITING: &Described = &Described {
+    name: "waiting",
+    about: "Writes who waits, in the order in which they would be confirmed, and the seats that they lack",
+    more: "Example: seatdesk waiting --set examples/summer.ssim --limits examples/limits.txt --first 2024-07-01 --days 31 --flight LZ601 --day 2024-07-27 examples/journal.txt\n\nOf several hosts: seatdesk waiting --set examples/summer.ssim --limits examples/limits.txt --first 2024-07-01 --days 31 --shards examples/journal.txt journal-3.txt",
+    horizon: HORIZON,
+    arguments: &[
+        Optional("flight", "FLIGHT", FLIGHT_HELP),
+        Optional("day", "DATE", DAY_HELP),
+        Flag("csv", CSV_HELP),
+        Flag("json", JSON_HELP),
+        Flag("open", OPEN_HELP),
+        Flag("shards", SHARDS_HELP),
+        WantedWord("journal", "JOURNAL", JOURNAL_HELP),
+        Words("others", "OTHER", OTHER_HELP),
+    ],
+};
 
-const BOOKINGS: &[Argument] = &[
-    Several("locator", "LOCATOR", LOCATOR_HELP),
-    Optional("flight", "FLIGHT", FLIGHT_HELP),
-    Optional("day", "DATE", DAY_HELP),
-    Flag("csv", CSV_HELP),
-    Flag("json", JSON_HELP),
-    Flag("open", OPEN_HELP),
-    WantedWord("journal", "JOURNAL", JOURNAL_HELP),
-];
+pub(super) const PICKUP: &Described = &Described {
+    name: "pickup",
+    about: "Writes what was held, sold, cancelled and confirmed behind a line of a journal, by flight and class",
+    more: "One of --behind and --since says what stands ahead.\n\nExample: seatdesk pickup --set examples/summer.ssim --limits examples/limits.txt --first 2024-07-01 --days 31 --behind 8 examples/journal.txt",
+    horizon: HORIZON,
+    arguments: &[
+        Optional("behind", "N", PICKED_HELP),
+        Optional("since", "OLDER", SINCE_HELP),
+        Optional("flight", "FLIGHT", FLIGHT_HELP),
+        Optional("by", "BY", PICKED_BY_HELP),
+        Flag("csv", CSV_HELP),
+        Flag("json", JSON_HELP),
+        Flag("open", OPEN_HELP),
+        WantedWord("journal", "JOURNAL", JOURNAL_HELP),
+    ],
+};
 
-pub(super) fn bookings_command<'a>(alloc: Global) -> Result<Command<'a>, AllocError>
-    ensures { IfOk result (IsBuiltAs bookings_app) }
-{
-    let bookings = horizon_command(
-        alloc,
-        "bookings",
-        "Writes live bookings, of locators or of a flight, in the codes of AIRIMP",
-        "Example: seatdesk bookings --set examples/summer.ssim --limits examples/limits.txt --first 2024-07-01 --days 31 --locator B3N6VC examples/journal.txt",
-    );
-    with_arguments(alloc, bookings, BOOKINGS)
-}
-
-const WAITING: &[Argument] = &[
-    Optional("flight", "FLIGHT", FLIGHT_HELP),
-    Optional("day", "DATE", DAY_HELP),
-    Flag("csv", CSV_HELP),
-    Flag("json", JSON_HELP),
-    Flag("open", OPEN_HELP),
-    Flag("shards", SHARDS_HELP),
-    WantedWord("journal", "JOURNAL", JOURNAL_HELP),
-    Words("others", "OTHER", OTHER_HELP),
-];
-
-pub(super) fn waiting_command<'a>(alloc: Global) -> Result<Command<'a>, AllocError>
-    ensures { IfOk result (IsBuiltAs waiting_app) }
-{
-    let waiting = horizon_command(
-        alloc,
-        "waiting",
-        "Writes who waits, in the order in which they would be confirmed, and the seats that they lack",
-        "Example: seatdesk waiting --set examples/summer.ssim --limits examples/limits.txt --first 2024-07-01 --days 31 --flight LZ601 --day 2024-07-27 examples/journal.txt\n\nOf several hosts: seatdesk waiting --set examples/summer.ssim --limits examples/limits.txt --first 2024-07-01 --days 31 --shards examples/journal.txt journal-3.txt",
-    );
-    with_arguments(alloc, waiting, WAITING)
-}
-
-const PICKUP: &[Argument] = &[
-    Optional("behind", "N", PICKED_HELP),
-    Optional("since", "OLDER", SINCE_HELP),
-    Optional("flight", "FLIGHT", FLIGHT_HELP),
-    Optional("by", "BY", PICKED_BY_HELP),
-    Flag("csv", CSV_HELP),
-    Flag("json", JSON_HELP),
-    Flag("open", OPEN_HELP),
-    WantedWord("journal", "JOURNAL", JOURNAL_HELP),
-];
-
-pub(super) fn pickup_command<'a>(alloc: Global) -> Result<Command<'a>, AllocError>
-    ensures { IfOk result (IsBuiltAs pickup_app) }
-{
-    let pickup = horizon_command(
-        alloc,
-        "pickup",
-        "Writes what was held, sold, cancelled and confirmed behind a line of a journal, by flight and class",
-        "One of --behind and --since says what stands ahead.\n\nExample: seatdesk pickup --set examples/summer.ssim --limits examples/limits.txt --first 2024-07-01 --days 31 --behind 8 examples/journal.txt",
-    );
-    with_arguments(alloc, pickup, PICKUP)
-}
-
-const HISTORY: &[Argument] = &[
-    Optional("locator", "LOCATOR", HISTORY_LOCATOR_HELP),
-    Optional("flight", "FLIGHT", FLIGHT_HELP),
-    Optional("day", "DATE", DAY_HELP),
-    Flag("csv", CSV_HELP),
-    Flag("json", JSON_HELP),
-    Flag("open", OPEN_HELP),
-    WantedWord("journal", "JOURNAL", JOURNAL_HELP),
-];
-
-pub(super) fn history_command<'a>(alloc: Global) -> Result<Command<'a>, AllocError>
-    ensures { IfOk result (IsBuiltAs history_app) }
-{
-    let history = horizon_command(
-        alloc,
-        "history",
-        "Writes what the lines of a journal did for a locator or on a flight, each with its reply",
-        "One of --locator and --flight says whose.\n\nExample: seatdesk history --set examples/summer.ssim --limits examples/limits.txt --first 2024-07-01 --days 31 --locator W8Y3ZA examples/journal.txt",
-    );
-    with_arguments(alloc, history, HISTORY)
-}
+pub(super) const HISTORY: &Described = &Described {
+    name: "history",
+    about: "Writes what the lines of a journal did for a locator or on a flight, each with its reply",
+    more: "One of --locator and --flight says whose.\n\nExample: seatdesk history --set examples/summer.ssim --limits examples/limits.txt --first 2024-07-01 --days 31 --locator W8Y3ZA examples/journal.txt",
+    horizon: HORIZON,
+    arguments: &[
+        Optional("locator", "LOCATOR", HISTORY_LOCATOR_HELP),
+        Optional("flight", "FLIGHT", FLIGHT_HELP),
+        Optional("day", "DATE", DAY_HELP),
+        Flag("csv", CSV_HELP),
+        Flag("json", JSON_HELP),
+        Flag("open", OPEN_HELP),
+        WantedWord("journal", "JOURNAL", JOURNAL_HELP),
+    ],
+};
