@@ -33,10 +33,8 @@ impl Key {
 pub(crate) fn is_key(key: &str) -> bool
     ensures { result ≡ is_key key.now }
 {
-    key == Key::Set.text()
-        || key == Key::Limits.text()
-        || key == Key::First.text()
-        || key == Key::Days.text()
-        || key == Key::Journal.text()
-        || key == Key::Desks.text()
+    matches!(
+        key,
+        "set" | "limits" | "first" | "days" | "journal" | "desks"
+    )
 }

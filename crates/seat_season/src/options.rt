@@ -68,10 +68,8 @@ fn season_in<'a>(awaits: Awaits, word: &'a str) -> Option<&'a str>
 fn season_attached(word: &str) -> Option<&str>
     ensures { option_map (λ season. season.now) result ≡ season_of Awaits.Nothing word.now }
 {
-    let (option, season) = word.split_once('=')?;
-    if option == "--season" {
-        Some(season)
-    } else {
-        None
+    match word.split_once('=') {
+        Some((option, season)) if option == "--season" => Some(season),
+        _ => None,
     }
 }

@@ -2,7 +2,7 @@
 //! It knows the keys and what each may be, and nothing of how the text is written or what is done with it.
 ghost use Rattle.std.specs.Prelude.{◌≡◌, IfErr, IfOk, Ok, Err, option_map};
 ghost use Rattle.seat_season.specs.Keys.{key_text};
-ghost use Rattle.seat_season.specs.Season.{days_in, desks_in, first_in, name_in, read_at, said, season_in, told, unknown_in, values_in, values_said, whole_in};
+ghost use Rattle.seat_season.specs.Season.{days_in, desks_in, first_in, name_in, read_at, said, season_in, told, unknown_in, values_in, values_said, whole_in, missing, wrong};
 ghost use Rattle.toml.specs.Data.{get_member};
 ghost use Rattle.toml.specs.View.{items_view, table_view, view};
 
@@ -50,8 +50,14 @@ pub fn season_of(table: &Table) -> Result<Season<'_>, SeasonFault<'_>>
     if let Some(key) = unknown_key(table) {
         return Err(SeasonFault::Unknown(key));
     }
-    let values = values_of(table)?;
-    whole(&values)
+    let values = match values_of(table) {
+        Ok(values) => values,
+        Err(key) => return Err(SeasonFault::Wrong(key)),
+    };
+    match whole(&values) {
+        Ok(season) => Ok(season),
+        Err(key) => Err(SeasonFault::Missing(key)),
+    }
 }
 
 /// The first key that no season has.
@@ -66,10 +72,11 @@ fn unknown_key(table: &Table) -> Option<&str>
     None
 }
 
+/// The values of a table, or the first key that has a wrong one.
 #[tactic(auto, unfolding(crate::specs::Season::values_in))]
-fn values_of(table: &Table) -> Result<Values<'_>, SeasonFault<'_>>
+fn values_of(table: &Table) -> Result<Values<'_>, Key>
     ensures values { IfOk result (λ v. values_in (table_view table.now) ≡ Ok (values_said v)) }
-    ensures fault { IfErr result (λ f. values_in (table_view table.now) ≡ Err (told f)) }
+    ensures fault { IfErr result (λ key. values_in (table_view table.now) ≡ Err (wrong key)) }
 {
     let set = name_at(table, Key::Set)?;
     let limits = name_at(table, Key::Limits)?;
@@ -87,22 +94,23 @@ fn values_of(table: &Table) -> Result<Values<'_>, SeasonFault<'_>>
     })
 }
 
+/// The season of these values, or the first key that it lacks.
 #[tactic(auto, unfolding(crate::specs::Season::whole_in))]
-fn whole<'a>(values: &Values<'a>) -> Result<Season<'a>, SeasonFault<'a>>
+fn whole<'a>(values: &Values<'a>) -> Result<Season<'a>, Key>
     ensures season { IfOk result (λ s. whole_in (values_said values.now) ≡ Ok (said s)) }
-    ensures fault { IfErr result (λ f. whole_in (values_said values.now) ≡ Err (told f)) }
+    ensures fault { IfErr result (λ key. whole_in (values_said values.now) ≡ Err (missing key)) }
 {
     let Some(set) = values.set else {
-        return Err(SeasonFault::Missing(Key::Set));
+        return Err(Key::Set);
     };
     let Some(limits) = values.limits else {
-        return Err(SeasonFault::Missing(Key::Limits));
+        return Err(Key::Limits);
     };
     let Some(first) = values.first else {
-        return Err(SeasonFault::Missing(Key::First));
+        return Err(Key::First);
     };
     let Some(days) = values.days else {
-        return Err(SeasonFault::Missing(Key::Days));
+        return Err(Key::Days);
     };
     Ok(Season {
         set,
@@ -114,56 +122,56 @@ fn whole<'a>(values: &Values<'a>) -> Result<Season<'a>, SeasonFault<'a>>
     })
 }
 
-fn name_at<'a>(table: &'a Table, key: Key) -> Result<Option<&'a str>, SeasonFault<'a>>
+fn name_at<'a>(table: &'a Table, key: Key) -> Result<Option<&'a str>, Key>
     ensures value { IfOk result (λ name. read_at key name_in (table_view table.now) ≡ Ok (option_map (λ text. text.now) name)) }
-    ensures fault { IfErr result (λ f. read_at key name_in (table_view table.now) ≡ Err (told f)) }
+    ensures fault { IfErr result (λ wrong_key. read_at key name_in (table_view table.now) ≡ Err (wrong wrong_key)) }
 {
     let Some(value) = value_at(table, key) else {
         return Ok(None);
     };
     match name_of(value) {
         Some(name) => Ok(Some(name)),
-        None => Err(SeasonFault::Wrong(key)),
+        None => Err(key),
     }
 }
 
-fn first_at(table: &Table) -> Result<Option<Date>, SeasonFault<'_>>
+fn first_at(table: &Table) -> Result<Option<Date>, Key>
     ensures value { IfOk result (λ first. read_at Key.First first_in (table_view table.now) ≡ Ok first) }
-    ensures fault { IfErr result (λ f. read_at Key.First first_in (table_view table.now) ≡ Err (told f)) }
+    ensures fault { IfErr result (λ key. read_at Key.First first_in (table_view table.now) ≡ Err (wrong key)) }
 {
     let Some(value) = value_at(table, Key::First) else {
         return Ok(None);
     };
     match first_of(value) {
         Some(first) => Ok(Some(first)),
-        None => Err(SeasonFault::Wrong(Key::First)),
+        None => Err(Key::First),
     }
 }
 
-fn days_at(table: &Table) -> Result<Option<u16>, SeasonFault<'_>>
+fn days_at(table: &Table) -> Result<Option<u16>, Key>
     ensures value { IfOk result (λ days. read_at Key.Days days_in (table_view table.now) ≡ Ok days) }
-    ensures fault { IfErr result (λ f. read_at Key.Days days_in (table_view table.now) ≡ Err (told f)) }
+    ensures fault { IfErr result (λ key. read_at Key.Days days_in (table_view table.now) ≡ Err (wrong key)) }
 {
     let Some(value) = value_at(table, Key::Days) else {
         return Ok(None);
     };
     match days_of(value) {
         Some(days) => Ok(Some(days)),
-        None => Err(SeasonFault::Wrong(Key::Days)),
+        None => Err(Key::Days),
     }
 }
 
-fn desks_at(table: &Table) -> Result<Option<&[Value]>, SeasonFault<'_>>
+fn desks_at(table: &Table) -> Result<Option<&[Value]>, Key>
     ensures value { IfOk result (λ desks. read_at Key.Desks desks_in (table_view table.now)
         ≡ Ok (option_map (λ names. items_view names.now) desks)) }
-    ensures fault { IfErr result (λ f. read_at Key.Desks desks_in (table_view table.now) ≡ Err (told f)) }
+    ensures fault { IfErr result (λ key. read_at Key.Desks desks_in (table_view table.now) ≡ Err (wrong key)) }
 {
     let Some(value) = value_at(table, Key::Desks) else {
         return Ok(None);
     };
     match desks_of(value) {
         Some(desks) => Ok(Some(desks)),
-        None => Err(SeasonFault::Wrong(Key::Desks)),
+        None => Err(Key::Desks),
     }
 }
 

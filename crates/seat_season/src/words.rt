@@ -101,12 +101,24 @@ pub fn seasoned_words(
     let mut seasoned = Words {
         words: Vec::new(alloc),
     };
-    let Some(line) = line_of(words) else {
-        put_all(alloc, &mut seasoned, words)?;
-        return Ok(seasoned);
-    };
-    put_line(alloc, &mut seasoned, &line, season, around)?;
+    put_seasoned(alloc, &mut seasoned, words, season, around)?;
     Ok(seasoned)
+}
+
+fn put_seasoned(
+    alloc: Global,
+    words: &mut Words,
+    given: &[&str],
+    season: &Season<'_>,
+    around: &Around<'_>,
+) -> Result<(), AllocError>
+    ensures { OnOk result (words_texts words.new ≡ words_texts words.old ++ seasoned (said season.now)
+        (option_map (λ f. f.now) around.now.folder) around.now.has_lines (texts given.now)) }
+{
+    match line_of(given) {
+        Some(line) => put_line(alloc, words, &line, season, around),
+        None => put_all(alloc, words, given),
+    }
 }
 
 fn put_line(
@@ -380,19 +392,18 @@ fn date_word(alloc: Global, date: Date) -> Result<String, AllocError>
     ensures { IfOk result (λ word. string_bytes word ≡ date_word date) }
 {
     let mut word = String::new(alloc);
-    put_two(&mut word, date.year / 100)?;
-    put_two(&mut word, date.year % 100)?;
-    word.push_str("-")?;
-    put_two(&mut word, u16::from(date.month))?;
-    word.push_str("-")?;
-    put_two(&mut word, u16::from(date.day))?;
+    put_two(&mut word, "", date.year / 100)?;
+    put_two(&mut word, "", date.year % 100)?;
+    put_two(&mut word, "-", u16::from(date.month))?;
+    put_two(&mut word, "-", u16::from(date.day))?;
     Ok(word)
 }
 
-/// Adds the last two digits of a number.
-fn put_two(word: &mut String, number: u16) -> Result<(), AllocError>
-    ensures { OnOk result (string_bytes word.new ≡ string_bytes word.old ++ two number) }
+/// Adds the last two digits of a number, and what stands ahead of them.
+fn put_two(word: &mut String, ahead: &str, number: u16) -> Result<(), AllocError>
+    ensures { OnOk result (string_bytes word.new ≡ string_bytes word.old ++ (ahead.now ++ two number)) }
 {
+    word.push_str(ahead)?;
     word.push_str(digit(number / 10 % 10))?;
     word.push_str(digit(number % 10))
 }
