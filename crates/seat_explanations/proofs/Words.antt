@@ -1,7 +1,8 @@
--- One part, and one piece, ahead of those that are left.
-use Rattle.std.proofs.Common.{◌≡◌, ℕ, suc, zero, ◌+◌, ◌<◌, List, [], ◌∷◌, ◌++◌, length, map, drop, get_or, refl, sym, ap, ◌∙◌, arith, append_assoc}
+-- One part, and one piece, ahead of those that are left; a line without the word ahead of a fault.
+use Rattle.std.proofs.Common.{◌≡◌, ℕ, suc, zero, ◌+◌, ◌<◌, List, [], ◌∷◌, ◌++◌, length, map, drop, get_or, take, ◌-◌, ◌≤◌, ◌⊎◌, inl, inr, refl, sym, ap, ◌∙◌, arith, append_assoc}
+use Rattle.std.proofs.lemmas.List.{take_rest}
 use Rattle.std.specs.Borrow.{Bor}
-use Rattle.seat_explanations.specs.Words.{filled, line_of, words_of}
+use Rattle.seat_explanations.specs.Words.{filled, line_of, words_of, IsLead, IsPlace, IsUnplaced}
 
 abbrev texts : List (Bor (List ℕ)) → List (List ℕ)
 texts xs = map (λ x. x.now) xs
@@ -43,3 +44,13 @@ piece_step all ws new xs i d less before added =
     ∙ sym (append_assoc ws (words_of piece) (line_of left))
     ∙ ap (λ (l : List (List ℕ)). l ++ line_of left) (sym added)
     ∙ ap (λ (n : ℕ). new ++ line_of (drop n (texts xs))) (next i)
+
+pub placed : (line : List (List ℕ)) → IsUnplaced line line
+placed line = record { either = inl refl }
+
+pub unplaced : (line : List (Bor (List ℕ))) (d : Bor (List ℕ)) → 1 ≤ length line → IsPlace (get_or line 0 d).now ⊎ IsLead (get_or line 0 d).now
+    → IsUnplaced (map (λ word. word.now) line) (map (λ word. word.now) (take (length line - 1) (drop 1 line)))
+unplaced [] d some is = absurd (omega (arith, some))
+unplaced (word ∷ line) d some is = record {
+  either = inr (word.now, is, ap (λ (words : List (Bor (List ℕ))). word.now ∷ texts words) (sym (take_rest (word ∷ line) 1)));
+}

@@ -1,4 +1,5 @@
 //! What the numbers behind a code count: none, one or two things, by their names with a comma between them.
+use crate::explanations::{ahead_of, behind};
 
 /// Of a row of changes that a host was sent.
 pub(crate) const DESK: &str = "desk,line";
@@ -12,7 +13,11 @@ pub(crate) const OTHER_KEY: &str = "other key";
 /// The keys that a season may have.
 pub(crate) const KEYS: &[&str] = &["set", "limits", "first", "days", "journal", "desks"];
 
-/// The names of what is counted. The empty text stands for nothing.
-pub(crate) fn names_of(counted: &str) -> (&str, &str) {
-    counted.split_once(',').unwrap_or((counted, ""))
+/// The name of what the number at this place counts, or the empty text for nothing.
+pub(crate) fn name_at(counted: &str, at: usize) -> &str {
+    match at {
+        0 => ahead_of(counted, ','),
+        1 => behind(counted, ','),
+        _ => "",
+    }
 }

@@ -12,5 +12,6 @@ mod meaning;
 mod notes;
 mod replies;
 mod told;
+mod written;
 
 pub use meaning::{Meaning, meaning_of};

@@ -1,15 +1,11 @@
 //! What a line means that the program printed: a fault, a reply, a note or an answer.
-//! It knows how such a line is led and what is written of its rows, and nothing of what its codes say.
+//! It knows how such a line is led and divided, and nothing of what its codes say.
 ghost use Rattle.std.specs.Prelude.{◌≡◌, ◌==◌, [], ◌∷◌, ◌++◌, IfOk, IsTrue, OnOk, codes, map};
 ghost use Rattle.std.specs.List.{slice_split};
-ghost use Rattle.std.specs.String.{string_bytes};
-ghost use Rattle.seat_explanations.specs.Meanings.{IsMeaning, IsMeaningOf, IsTold};
-ghost use Rattle.seat_explanations.specs.Rows.{Begins, row_text};
+ghost use Rattle.seat_explanations.specs.Meanings.{IsMeaning, IsMeaningOf};
 ghost use Rattle.seat_explanations.specs.Words.{filled, first_word, line_of, unnamed, words_of, IsLead, IsPlace, IsUnplaced};
 
-use crate::counted::NAMED_KEY;
-use crate::explanations::Explanation;
-use crate::told::{DASH, Said, Told, is_number, told_of};
+use crate::told::{DASH, Told, is_number, told_of};
 use std::alloc::{AllocError, Global};
 
 /// What stands ahead of a fault in its line.
@@ -46,7 +42,6 @@ pub fn meaning_of<'a>(
     )
 }
 
-#[tactic(auto, using(crate::proofs::Rows::told_by))]
 fn explained<'a>(
     alloc: Global,
     line: &[&'a str],
@@ -54,16 +49,18 @@ fn explained<'a>(
 ) -> Result<Meaning<'a>, AllocError>
     ensures found { IfOk result (λ meaning. IsMeaning (first_word (map (λ word. word.now) line.now)) meaning) }
 {
-    match told_of(line, ahead) {
-        Ok(told) => found(alloc, told),
-        Err(word) => Ok(Meaning::Unknown(word)),
+    match told_of(alloc, line, ahead)? {
+        Told::Text(text) => Ok(Meaning::Found(text)),
+        Told::Left(left) => Ok(Meaning::Unknown(word_of(line, left))),
     }
 }
 
-fn found<'a>(alloc: Global, told: Told) -> Result<Meaning<'a>, AllocError>
-    ensures { IfOk result (λ meaning. IsTold told.entry.first meaning) }
-{
-    Ok(Meaning::Found(text_of(alloc, told)?))
+/// The word of a line from which on so many are left.
+fn word_of<'a>(line: &[&'a str], left: usize) -> &'a str {
+    if left == 0 || line.len() < left {
+        return "";
+    }
+    line[line.len() - left]
 }
 
 /// The words of all pieces of a line, which blanks divide.
@@ -158,66 +155,4 @@ fn is_lead(word: &str) -> bool
         [digit] => b'0' <= *digit && *digit <= b'8',
         _ => false,
     }
-}
-
-/// The text of all that is told.
-#[tactic(auto, using(crate::proofs::Rows::begun_with, crate::proofs::Rows::further))]
-fn text_of(alloc: Global, told: Told) -> Result<String, AllocError>
-    ensures { IfOk result (λ text. Begins (row_text told.entry.first) (string_bytes text)) }
-{
-    let mut text = String::new(alloc);
-    put_row(&mut text, told.first)?;
-    put_further(&mut text, &told.further)?;
-    put_key(alloc, &mut text, told.key)?;
-    Ok(text)
-}
-
-/// Adds what is said of the words behind the first one.
-#[tactic(auto, using(crate::proofs::Rows::itself, crate::proofs::Rows::further))]
-fn put_further(text: &mut String, further: &[Option<Said>]) -> Result<(), AllocError>
-    ensures { OnOk result (Begins (string_bytes text.old) (string_bytes text.new)) }
-{
-    for said in further {
-        put_said(text, *said)?;
-    }
-    Ok(())
-}
-
-#[tactic(auto, using(crate::proofs::Rows::itself, crate::proofs::Rows::longer))]
-fn put_said(text: &mut String, said: Option<Said>) -> Result<(), AllocError>
-    ensures { OnOk result (Begins (string_bytes text.old) (string_bytes text.new)) }
-{
-    match said {
-        Some(said) => put_line(text, said.of, said.text),
-        None => Ok(()),
-    }
-}
-
-/// Adds a key that no season has, which may be of several words.
-#[tactic(auto, using(crate::proofs::Rows::itself, crate::proofs::Rows::longer))]
-fn put_key(alloc: Global, text: &mut String, words: &[&str]) -> Result<(), AllocError>
-    ensures { OnOk result (Begins (string_bytes text.old) (string_bytes text.new)) }
-{
-    if words.is_empty() {
-        return Ok(());
-    }
-    let key = words.join(alloc, " ")?;
-    put_line(text, NAMED_KEY, &key)
-}
-
-fn put_row(text: &mut String, row: Explanation) -> Result<(), AllocError>
-    ensures { OnOk result (string_bytes text.new ≡ string_bytes text.old ++ row_text row) }
-{
-    put_line(text, row.code, row.text)
-}
-
-/// Adds what something is, and what is said of it.
-fn put_line(text: &mut String, what: &str, said: &str) -> Result<(), AllocError>
-    ensures { OnOk result
-        (string_bytes text.new ≡ string_bytes text.old ++ (what.now ++ (codes ": " ++ (said.now ++ codes "\n")))) }
-{
-    text.push_str(what)?;
-    text.push_str(": ")?;
-    text.push_str(said)?;
-    text.push_str("\n")
 }

@@ -1,15 +1,17 @@
 //! Which rows tell what a line means, and what the numbers in it count.
 //! It knows how the words of a line stand behind one another, and nothing of what its codes say.
 ghost use Rattle.std.specs.Prelude.{◌≡◌, IfOk, IfSome, IsTrue, codes, length, map, take};
-ghost use Rattle.seat_explanations.specs.Meanings.{IsRowFor};
-ghost use Rattle.seat_explanations.specs.Rows.{is_of};
+ghost use Rattle.seat_explanations.specs.Meanings.{IsRowForOrNone, IsTold, IsToldOf};
+ghost use Rattle.seat_explanations.specs.Rows.{IsRowOrNone};
 ghost use Rattle.seat_explanations.specs.Words.{first_word, IsPlainOf, IsRoomBehind};
 
-use crate::counted::{DESK, KEYS, NAMED_KEY, OTHER_KEY, names_of};
+use crate::counted::{DESK, KEYS, NAMED_KEY, OTHER_KEY, name_at};
 use crate::explanations::{
-    Explanation, answer_row, asked_row, has_word, is_listed, reply_row, row_behind, row_of,
-    row_of_note, row_of_reason,
+    answer_row, asked_row, first_of, has_word, is_listed, numbers_of, reply_row, row_behind,
+    row_of, row_of_note, row_of_reason,
 };
+use crate::written::text_of;
+use std::alloc::{AllocError, Global};
 
 /// What stands ahead of a fault that is of no line, behind FAULT.
 pub const DASH: &str = "-";
@@ -20,182 +22,134 @@ const FAULT: &str = "FAULT";
 /// The session of a host's manager.
 const MANAGER: &str = "0";
 
-/// What a number with @ ahead of it counts, whatever the code's own numbers are.
-const CALL: &str = "call of that session";
-
 /// The codes of rows of limits and of changes.
 const ROWS: &[&str] = &["M1", "M2", "M3", "M4", "M5", "M6", "M7", "U1"];
 
-/// What is told of a line: the row of its first word; what is said of a fault behind FAULT, of the code behind the one or the other, and of each number;
-/// and the words of a key that no season has.
-#[derive(Clone, Copy)]
-pub struct Told<'a, 'b> {
-    pub first: Explanation,
-    pub further: [Option<Said<'a>>; 4],
-    pub key: &'b [&'a str],
+/// What is told of a line, or how many of its words stand from the first one on that is no code or number of it.
+pub enum Told {
+    Text(String),
+    Left(usize),
 }
 
-/// Something, and what is said of it.
-#[derive(Clone, Copy)]
-pub struct Said<'a> {
-    pub of: &'a str,
-    pub text: &'a str,
-}
-
-/// What is told of a line, or its first word that is no code or number of it.
-#[tactic(auto, using(crate::proofs::Rows::row_itself))]
-pub fn told_of<'a, 'b>(line: &'b [&'a str], ahead: &'static str) -> Result<Told<'a, 'b>, &'a str>
-    ensures { IfOk result (λ told. IsRowFor (first_word (map (λ word. word.now) line.now)) told.first) }
+/// What is told of a line: of its first word, and behind FAULT of the fault that a host tells.
+pub fn told_of(alloc: Global, line: &[&str], ahead: &'static str) -> Result<Told, AllocError>
+    ensures { IfOk result (λ told. IsToldOf (first_word (map (λ word. word.now) line.now)) told) }
 {
-    let Some((code, behind)) = line.split_first() else {
-        return Err("");
+    let [code, behind @ ..] = line else {
+        return Ok(Told::Left(0));
     };
-    if let Some(answer) = answer_row(code) {
-        return told_of_answer(answer, code, behind, ahead);
+    let answer = answer_row(code);
+    if !answer.is_empty() {
+        return told_of_answer(alloc, answer, code, behind, ahead);
     }
-    if let Some(row) = row_for(code) {
-        return details(row, None, code, behind);
+    let row = row_for(code);
+    if !row.is_empty() {
+        return details(alloc, row, "", code, behind);
     }
-    match other_row(code, behind) {
-        Some(row) => Ok(alone(row)),
-        None => Err(*code),
+    let other = other_row(code, behind);
+    if !other.is_empty() {
+        return alone(alloc, other);
     }
+    Ok(Told::Left(line.len()))
 }
 
-fn alone<'a, 'b>(row: Explanation) -> Told<'a, 'b>
-    ensures { result.first ≡ row }
+fn alone(alloc: Global, row: &'static str) -> Result<Told, AllocError>
+    ensures { IfOk result (λ told. IsTold row.now told) }
 {
-    Told {
-        first: row,
-        further: [None, None, None, None],
-        key: &[],
-    }
+    Ok(Told::Text(text_of(alloc, row, "", "", "", &[])?))
 }
 
 /// What is told of a word of an answer: its row alone, or of FAULT what the fault behind it says too, of which a host told a desk or a feed.
-fn told_of_answer<'a, 'b>(
-    answer: Explanation,
+fn told_of_answer(
+    alloc: Global,
+    answer: &'static str,
     word: &str,
-    fault: &'b [&'a str],
+    fault: &[&str],
     ahead: &'static str,
-) -> Result<Told<'a, 'b>, &'a str>
-    ensures { IfOk result (λ told. told.first ≡ answer) }
+) -> Result<Told, AllocError>
+    ensures { IfOk result (λ told. IsTold answer.now told) }
 {
     if !word.eq_ignore_ascii_case(FAULT) {
-        return Ok(alone(answer));
+        return alone(alloc, answer);
     }
-    let Some((code, behind)) = fault.split_first() else {
-        return Ok(alone(answer));
+    let [code, behind @ ..] = fault else {
+        return alone(alloc, answer);
     };
-    let Some(row) = row_for(code) else {
-        return Err(*code);
-    };
+    let row = row_for(code);
+    if row.is_empty() {
+        return Ok(Told::Left(fault.len()));
+    }
     let code = if *code == DASH { ahead } else { *code };
-    details(answer, Some(row), code, behind)
+    details(alloc, answer, row, code, behind)
 }
 
-/// What is told of a row with the words behind its code.
-fn details<'a, 'b>(
-    first: Explanation,
-    fault: Option<Explanation>,
+/// What is told of a row, and of a fault behind it where there is one, with the words behind the code.
+fn details(
+    alloc: Global,
+    first: &'static str,
+    fault: &'static str,
     code: &str,
-    behind: &'b [&'a str],
-) -> Result<Told<'a, 'b>, &'a str>
-    ensures { IfOk result (λ told. told.first ≡ first) }
+    behind: &[&str],
+) -> Result<Told, AllocError>
+    ensures { IfOk result (λ told. IsTold first.now told) }
 {
-    let (second, numbers) = second_of(code, behind);
-    let counted = counted(fault.unwrap_or(first), second, code, numbers);
-    if counted == OTHER_KEY {
-        return Ok(Told {
-            first,
-            further: [said_of_row(fault), said_of_row(second), None, None],
-            key: numbers,
-        });
-    }
-    let (one, two) = said_of_numbers(counted, numbers)?;
-    Ok(Told {
-        first,
-        further: [said_of_row(fault), said_of_row(second), one, two],
-        key: &[],
-    })
-}
-
-fn said_of_row<'a>(row: Option<Explanation>) -> Option<Said<'a>> {
-    match row {
-        Some(row) => Some(Said {
-            of: row.code,
-            text: row.text,
-        }),
-        None => None,
-    }
-}
-
-/// The row of the word behind a code, where it is a code too, and the words behind that.
-fn second_of<'a, 'b>(code: &str, behind: &'b [&'a str]) -> (Option<Explanation>, &'b [&'a str]) {
-    let Some((word, more)) = behind.split_first() else {
-        return (None, behind);
+    let second = second_of(code, behind);
+    let numbers = if second.is_empty() {
+        behind
+    } else {
+        behind_first(behind)
     };
-    match row_behind(code, word) {
-        Some(second) => (Some(second), more),
-        None => (None, behind),
+    let counted = counted(first_of(fault, first), second, code, numbers);
+    match wrong_number(counted, numbers) {
+        Some(left) => Ok(Told::Left(left)),
+        None => Ok(Told::Text(text_of(alloc, first, fault, second, counted, numbers)?)),
+    }
+}
+
+/// The row of the word behind a code, where it is a code too.
+fn second_of(code: &str, behind: &[&str]) -> &'static str {
+    match behind {
+        [word, ..] => row_behind(code, word),
+        [] => "",
+    }
+}
+
+fn behind_first<'a, 'b>(words: &'b [&'a str]) -> &'b [&'a str] {
+    match words {
+        [_, behind @ ..] => behind,
+        [] => words,
     }
 }
 
 /// What the numbers behind a code count. Of a row of changes that a host was sent they are the manager's session, 0, and the line.
-fn counted(
-    row: Explanation,
-    second: Option<Explanation>,
-    code: &str,
-    numbers: &[&str],
-) -> &'static str {
+fn counted(row: &'static str, second: &'static str, code: &str, numbers: &[&str]) -> &'static str {
     match numbers {
         [session, _] if *session == MANAGER && has_word(ROWS, code) => DESK,
-        _ => numbers_of(row, second, code),
+        _ => counted_of(row, second, code),
     }
 }
 
 /// What the code behind the first one says of the numbers, where it does and is no list's, or else the first one.
-fn numbers_of(row: Explanation, second: Option<Explanation>, code: &str) -> &'static str {
-    match second {
-        Some(second) if !second.numbers.is_empty() && !is_listed(code) => second.numbers,
-        _ => row.numbers,
+fn counted_of(row: &'static str, second: &'static str, code: &str) -> &'static str {
+    let numbers = numbers_of(second);
+    if !numbers.is_empty() && !is_listed(code) {
+        numbers
+    } else {
+        numbers_of(row)
     }
 }
 
-/// What each number counts; or the first of these words that is no number and no key, or one more than are counted.
-fn said_of_numbers<'a>(
-    counted: &'static str,
-    numbers: &[&'a str],
-) -> Result<(Option<Said<'a>>, Option<Said<'a>>), &'a str> {
-    let (first, second) = names_of(counted);
-    let one = said_of_number(first, numbers.first())?;
-    let two = said_of_number(second, numbers.get(1))?;
-    match numbers.get(2) {
-        Some(three) => Err(*three),
-        None => Ok((one, two)),
+/// How many words stand from the first one on that is no number and no key, or one more than are counted.
+fn wrong_number(counted: &'static str, numbers: &[&str]) -> Option<usize> {
+    if counted == OTHER_KEY {
+        return None;
     }
-}
-
-fn said_of_number<'a>(
-    what: &'static str,
-    number: Option<&&'a str>,
-) -> Result<Option<Said<'a>>, &'a str> {
-    let Some(number) = number else {
-        return Ok(None);
-    };
-    if !is_right(what, number) {
-        return Err(*number);
+    for at in 0..numbers.len() {
+        if !is_right(name_at(counted, at), numbers[at]) {
+            return Some(numbers.len() - at);
+        }
     }
-    Ok(Some(match number.strip_prefix('@') {
-        Some(call) => Said {
-            of: CALL,
-            text: call,
-        },
-        None => Said {
-            of: what,
-            text: *number,
-        },
-    }))
+    None
 }
 
 /// Whether a word may stand for what is counted so: a number, or the name of a key of a season.
@@ -215,42 +169,45 @@ pub fn is_number(word: &str) -> bool {
 
 /// The row of a fault's code or a reply's.
 #[tactic(auto, using(crate::proofs::Rows::either))]
-fn row_for(code: &str) -> Option<Explanation>
-    ensures { IfSome result (λ row. IsTrue (is_of code.now row)) }
+fn row_for(code: &str) -> &'static str
+    ensures { IsRowOrNone code.now result.now }
 {
-    row_of(code).or(reply_row(code))
+    first_of(row_of(code), reply_row(code))
 }
 
 /// The row of a word that is no code: a note, why a file is refused, a word to a host, or a reply's code with its seats.
 #[tactic(auto, using(crate::proofs::Rows::row_or_note, crate::proofs::Rows::row_of_note, crate::proofs::Rows::row_plainly))]
-fn other_row(word: &str, behind: &[&str]) -> Option<Explanation>
-    ensures { IfSome result (λ row. IsRowFor word.now row) }
+fn other_row(word: &str, behind: &[&str]) -> &'static str
+    ensures { IsRowForOrNone word.now result.now }
 {
-    if let Some(note) = row_of_note(word, behind) {
-        return Some(note);
+    let note = row_of_note(word, behind);
+    if !note.is_empty() {
+        return note;
     }
-    if let Some(reason) = reason_for(word, behind) {
-        return Some(reason);
+    let reason = reason_for(word, behind);
+    if !reason.is_empty() {
+        return reason;
     }
     plain_row(plain_of(word))
 }
 
 /// The row of what -v says of a file, behind its name and a colon.
-fn reason_for(name: &str, behind: &[&str]) -> Option<Explanation>
-    ensures { IfSome result (λ row. IsTrue (is_of (codes "note") row)) }
+#[tactic(auto, using(crate::proofs::Rows::no_row))]
+fn reason_for(name: &str, behind: &[&str]) -> &'static str
+    ensures { IsRowOrNone (codes "note") result.now }
 {
     if !name.ends_with(':') {
-        return None;
+        return "";
     }
     row_of_reason(behind)
 }
 
 /// The row of a word to a host, of a reply's code, or of the room of a closed class.
 #[tactic(auto, using(crate::proofs::Rows::either))]
-fn plain_row(plain: &str) -> Option<Explanation>
-    ensures { IfSome result (λ row. IsTrue (is_of plain.now row)) }
+fn plain_row(plain: &str) -> &'static str
+    ensures { IsRowOrNone plain.now result.now }
 {
-    asked_row(plain).or(reply_row(plain))
+    first_of(asked_row(plain), reply_row(plain))
 }
 
 /// A word without the ? ahead of it, the room of a closed class without the class ahead of it, or a word without the digits at its end.
