@@ -1,5 +1,5 @@
 -- A request that is booked, and what can be told of it.
-use Rattle.std.proofs.Common.{◌≡◌, ℕ, zero, suc, ◌+◌, ◌<◌, ◌≤◌, true, false, nat_lt, List, [], ◌∷◌, ◌++◌, length, take, refl, ap, sym, ◌∙◌, subst, arith, append-nil}
+use Rattle.std.proofs.Common.{◌≡◌, ℕ, zero, suc, ◌+◌, ◌<◌, ◌≤◌, true, false, nat_lt, List, [], ◌∷◌, ◌++◌, length, take, get_or, refl, ap, sym, ◌∙◌, subst, arith, append-nil}
 use Rattle.std.specs.Prelude.{All, IfSome}
 use Rattle.std.proofs.lemmas.Bool.Decides.{nat_tests}
 use Rattle.airimp_lines.specs.Grammar.{IsRightSegment}
@@ -90,6 +90,13 @@ only_line grid past journal asked lines rest line is more at =
       journal_is = whole;
       last = record { past = past; is = whole ∙ ap (λ (e : Entry). past ++ e ∷ []) (sym same) };
     }
+
+pub only_first : (grid : Ladders) (past journal : List Entry) (asked : Asked) (lines : List Entry) (line : Entry)
+    → lines ≡ lines_for grid past (take (length lines) (asked ∷ [])) → journal ≡ past ++ lines → 0 < length lines → line ≡ get_or lines 0 line
+    → IsOnly grid past journal asked line
+only_first grid past journal asked [] line is more some here = absurd (omega (arith, some))
+only_first grid past journal asked (first ∷ rest) line is more some here =
+    only_line grid past journal asked (first ∷ rest) rest line is more (ap (λ (e : Entry). e ∷ rest) (sym here))
 
 -- no line, and the journal is as it was
 pub no_line : (past journal lines : List Entry) → journal ≡ past ++ lines → lines ≡ [] → journal ≡ past
