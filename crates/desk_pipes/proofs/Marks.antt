@@ -1,6 +1,6 @@
 -- A mark that is seen byte by byte.
 use Rattle.std.proofs.Common.{◌≡◌, ◌<◌, ◌≤◌, ℕ, suc, Bool, true, List, [], ◌∷◌, ◌++◌, length, refl, sym, ap, ◌∙◌, subst, arith, append_assoc, get_or, length-append}
-use Rattle.std.specs.Prelude.{◌+◌, Option, drop, nat_eq, nat_le, take}
+use Rattle.std.specs.Prelude.{◌+◌, ◌-◌, Option, drop, nat_eq, nat_le, take}
 use Rattle.std.proofs.lemmas.Bool.Decides.{nat_tests}
 use Rattle.std.proofs.lemmas.List.{append-nil, take_all, take-append-drop}
 use Rattle.std.proofs.Math.Seq.{take-suc}
@@ -20,6 +20,18 @@ sees_more mark seen mid later c n more first rest = record {
       (append_assoc before (c ∷ []) (take n more) ∙ ap (λ (k : ℕ). before ++ take k (c ∷ more)) one)
       (rest.goes_on (before ++ c ∷ []) (first.goes_on before is));
 }
+
+-- a piece by its first byte and those behind it
+pub sees_piece : (mark piece : List ℕ) (seen mid later n d : ℕ) → 0 < length piece → SeesOn mark seen (get_or piece 0 d ∷ []) mid
+    → SeesOn mark mid (take n (take (length piece - 1) (drop 1 piece))) later → SeesOn mark seen (take (1 + n) piece) later
+sees_piece mark [] seen mid later n d some first rest = absurd (omega (arith, some))
+sees_piece mark (c ∷ more) seen mid later n d some first rest =
+    sees_more mark seen mid later c n more first
+    (subst (λ (l : List ℕ). SeesOn mark mid (take n l) later) (take_all (length (c ∷ more) - 1) more (omega arith)) rest)
+
+pub whole_piece : (piece : List ℕ) (n : ℕ) → 0 < length piece → n ≡ length (take (length piece - 1) (drop 1 piece)) → 1 + n ≡ length piece
+whole_piece [] n some is = absurd (omega (arith, some))
+whole_piece (c ∷ more) n some is = omega (arith, is, ap length (take_all (length (c ∷ more) - 1) more (omega arith)))
 
 -- the mark's next byte, its first, or none
 pub sees_next : (mark : List ℕ) (seen c : ℕ) (is_next : Bool) → length mark ≡ 24 → seen < 24 → is_next ≡ nat_eq (get_or mark seen 0) c → is_next ≡ true
