@@ -1,6 +1,7 @@
 -- Groups that are booked one behind the other.
-use Rattle.std.proofs.Common.{◌≡◌, ℕ, zero, suc, ◌+◌, ◌≤◌, min, List, [], ◌∷◌, ◌++◌, length, take, drop, refl, ap, sym, ◌∙◌, subst, arith, append-nil, append_assoc, length-append, take-append-drop}
-use Rattle.std.specs.Prelude.{Option, All}
+use Rattle.std.proofs.Common.{◌≡◌, ℕ, zero, suc, ◌+◌, ◌≤◌, Bool, true, min, List, [], ◌∷◌, ◌++◌, length, take, drop, refl, ap, sym, ◌∙◌, subst, arith, append-nil, append_assoc, length-append, take-append-drop}
+use Rattle.std.specs.Prelude.{◌==◌, Option, All}
+use Rattle.std.proofs.lemmas.Bool.Decides.{nat_tests}
 use Rattle.std.proofs.Math.Seq.{drop-append_seam}
 use Rattle.std.proofs.lemmas.List.{length-take}
 use Rattle.std.proofs.lemmas.List.Elements.{All-drop, All-take}
@@ -117,6 +118,13 @@ module _ {D : Type 0} (seen : D → Option (List ℕ)) (leaves : D → List ℕ 
       subst (All (IsRight old.grid)) (drop-append_seam is.front rest)
       (All-drop (IsRight old.grid) (length is.front) (is.front ++ rest) whole) in
       subst (λ (g : Ladders). AreRight g rest) (sym is.grid_is) (record { each = behind_front })
+
+-- nothing is left
+pub none_left : (rest : List Asked) (is_empty : Bool) → is_empty ≡ (length rest == 0) → is_empty ≡ true → rest ≡ []
+none_left [] is_empty tells is = refl
+none_left (a ∷ rest) is_empty tells is =
+    let none : length (a ∷ rest) ≡ 0 = grind (arith, nat_tests) in
+    absurd (omega (arith, none))
 
 -- the first n of right requests are right
 pub right_front : (grid : Ladders) (n : ℕ) (asked : List Asked) → AreRight grid asked → AreRight grid (take n asked)

@@ -5,12 +5,12 @@ use Rattle.std.specs.Prelude.{option_to_list}
 use Rattle.std.proofs.Math.Seq.{take-append_seam}
 use Rattle.std.proofs.lemmas.List.Elements.{All-append}
 use Rattle.desk_calls.specs.declared.call_index.CallIndex.{CallIndex}
-use Rattle.desk_hall.specs.Halls.{Hallful, HasHeardLine, IsHall, IsHeardBy, IsOpened, IsOrdered, IsPiece, IsPieceFrom, IsPieceUpTo, IsUnheard}
+use Rattle.desk_hall.specs.Halls.{Hallful, HasHeardLine, IsHall, IsHeardBy, IsOpened, IsOrdered, IsPiece, IsPieceFrom, IsPieceUpTo, IsSameHost, IsSet, IsUnheard}
 use Rattle.desk_hall.specs.Pieces.{again_asked, backlog_behind, backlog_of, piece_end, told_between}
 use Rattle.desk_hall.specs.declared.backlog.Asking.{Asking}
 use Rattle.desk_telling.specs.Telling.{AreTold}
 use Rattle.desk_hall.proofs.Pieces.{no_backlog, whole_end}
-use Rattle.desk_hall.specs.Planning.{Plans, PlansOrder, day_behind, goes_on}
+use Rattle.desk_hall.specs.Planning.{Plans, PlansOrder, PlansRow, day_behind, goes_on}
 use Rattle.desk_hall.specs.Orders.{IsOrder}
 use Rattle.desk_hall.specs.declared.orders.Order.{Order}
 use Rattle.airline_base.specs.Days.{IsCenturyDay}
@@ -20,6 +20,7 @@ use Rattle.desk_lines.specs.declared.desk.Desk.{Desk}
 use Rattle.desk_lines.specs.declared.desk.Meaning.{Meaning}
 use Rattle.ssim_flights.specs.declared.flight.Flight.{Flight as Flown}
 use Rattle.seat_desk.specs.Loading.{IsGridOf}
+use Rattle.seat_journal.specs.declared.entry.Control.{Control}
 use Rattle.seat_nesting.specs.Nesting.{Ladders}
 use Rattle.seat_serving.specs.Answering.{behind, AreRight, IsRight}
 use Rattle.seat_serving.specs.Served.{Served}
@@ -171,6 +172,28 @@ module _ {D : Type 0} where
     flights_are = flights;
     backlogs_are = backlogs;
   }
+
+  -- what the host sets by itself, where it was added and where it was not
+  pub set_if : {A E : Type 0} (old new : Hallful D) (control : Control) (plan : Plan) (r : Result A E)
+      → PlansRow (nat_lt (length (behind old.serving.grid old.serving.journal old.asked)) old.serving.cap)
+      (behind old.serving.grid old.serving.journal old.asked) control plan
+      → OnOk r ((new.asked ≡ old.asked ++ option_to_list plan.asked) × (new.turns ≡ old.turns ++ plan.turn ∷ []))
+      → new.desks ≡ old.desks → new.manager ≡ old.manager → IsSameHost old new → OnOk r (IsSet old new control)
+  set_if old new control plan (Ok x) plans more desks manager host = record {
+    plan = plan;
+    plans = plans;
+    asked_is = more.0;
+    turns_are = more.1;
+    desks_are = desks;
+    manager_is = manager;
+    same_host = host;
+  }
+  set_if old new control plan (Err e) plans more desks manager host = tt
+
+  pub unset_if : {A E : Type 0} (old : Hallful D) (asked : List Asked) (turns : List Turn) (r : Result A E)
+      → OnErr r ((asked ≡ old.asked) × (turns ≡ old.turns)) → OnErr r ((record old { asked = asked; turns = turns }) ≡ old)
+  unset_if old asked turns (Ok x) same = tt
+  unset_if old asked turns (Err e) same = λ i. record old { asked = same.0 i; turns = same.1 i }
 
   -- lines are read on another day
   pub hall_later : (flights served : List Flown) (serving : Served D) (today later : ℕ) (desks : List Desk) (calls : List CallIndex)

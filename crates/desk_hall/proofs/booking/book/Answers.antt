@@ -1,4 +1,5 @@
-use Rattle.desk_hall.proofs.Groups.{booking_ends, booking_more, booking_right, booking_room, booking_told}
+use Rattle.std.proofs.lemmas.Result.{err_from_is_err_and}
+use Rattle.desk_hall.proofs.Groups.{all_booked, booking_ends, booking_front, booking_more, booking_none, booking_right, booking_room, booking_some, booking_told, none_left}
 use Rattle.desk_hall.proofs.booking.book.Goals as goal
 
 pub book_group-requires-clause-right : goal.book_group-requires-clause-right
@@ -26,3 +27,22 @@ loop-rest-preserved g c =
 pub returns-clause-told : goal.returns-clause-told
 returns-clause-told g c =
     booking_told g.D.Tape.seen g.D.Tape.may_leave g.D.Tape.unsynced g.D.Failures.failure_count c.args.serving.now c.loop-rest.serving c.args.asked.now c.loop-rest.rest.now c.loop-rest.invariant
+
+pub loop-rest-init : goal.loop-rest-init
+loop-rest-init g c = booking_none g.D.Tape.seen g.D.Tape.may_leave g.D.Tape.unsynced g.D.Failures.failure_count c.args.serving.now c.args.asked.now c.requires.ready
+
+pub returns-clause-booked : goal.returns-clause-booked
+returns-clause-booked g c =
+    all_booked g.D.Tape.seen g.D.Tape.may_leave g.D.Tape.unsynced g.D.Failures.failure_count c.args.serving.now c.loop-rest.serving c.args.asked.now c.loop-rest.rest.now
+    c.loop-rest.invariant (none_left c.loop-rest.rest.now c.is_empty.result c.is_empty.ensures c.loop-rest-test.false)
+
+pub returns-in_err-count-clause-memory : goal.returns-in_err-count-clause-memory
+returns-in_err-count-clause-memory g c =
+    let p = err_from_is_err_and c.from_residual.result c.from_residual.ensures.1 in
+    rw (p.1, p.2) (λ is. booking_some g.D.Tape.seen g.D.Tape.may_leave g.D.Tape.unsynced g.D.Failures.failure_count c.args.serving.now c.loop-rest.serving c.book_group.new.serving
+    c.args.asked.now c.loop-rest.rest.now c.loop-rest.invariant (c.in_err-count.ensures.memory is).0 (c.in_err-count.ensures.memory is).1)
+
+pub returns-in_err-count-clause-front : goal.returns-in_err-count-clause-front
+returns-in_err-count-clause-front g c =
+    booking_front g.D.Tape.seen g.D.Tape.may_leave g.D.Tape.unsynced g.D.Failures.failure_count c.args.serving.now c.loop-rest.serving c.args.asked.now c.loop-rest.rest.now
+    c.book_group.new.serving.kept c.loop-rest.invariant c.in_err-count.ensures.front
