@@ -1,5 +1,5 @@
 -- The end of a talk, and of the journal with it.
-use Rattle.std.proofs.Common.{◌≡◌, ℕ, List, subst, sym, ap, ◌∙◌}
+use Rattle.std.proofs.Common.{◌≡◌, ℕ, true, false, List, subst, sym, ap, ◌∙◌}
 use Rattle.std.specs.Prelude.{None, Some, IfSome, Option}
 use Rattle.seat_nesting.specs.Nesting.{Ladders}
 use Rattle.seat_journal.specs.declared.entry.Entry.{Entry}
@@ -14,11 +14,12 @@ use Rattle.seat_serving.proofs.Holding.{seen_kept}
 use Rattle.seat_serving.specs.Served.{Served}
 use Rattle.seat_serving.specs.declared.serving.ending.Ended.{Ended}
 use Rattle.desk_answers.specs.Hosts.{Attended, IsReady}
-use Rattle.desk_talk.specs.Ending.{IsEnded, IsLeftOpen, IsTalkedOut, IsTalkTo, IsUntoldIn}
+use Rattle.desk_talk.specs.Ending.{IsEnded, IsLeftOpen, IsTalkedOut, IsTalkTo, IsUntoldIn, is_of_journal}
 use Rattle.desk_talk.specs.Talks.{EndsUntold, IsBroken, IsSameHost, IsTalk}
 use Rattle.desk_talk.specs.declared.serving.DayFault.{DayFault}
 use Rattle.desk_talk.specs.declared.serving.DayFault.TheVariants.{Talk, End}
 use Rattle.desk_talk.specs.declared.talk_fault.TalkFault.{TalkFault}
+use Rattle.desk_talk.specs.declared.talk_fault.TalkFault.TheVariants.{Journal}
 
 module _ {D : Type 0} where
   -- the journal is that of the host that was opened
@@ -103,3 +104,10 @@ un_talk other (End fault) = other
 pub talk_fault_is : (a b : TalkFault) → Talk a ≡ Talk b → a ≡ b
 unfolding un_talk
 talk_fault_is a b is = ap (un_talk a) is
+
+-- one that is not of the journal's file
+pub other_fault : (fault : TalkFault) → is_of_journal (Talk fault) ≡ false → fault ≡ Journal → ⊥
+other_fault fault other is = untrue (sym (ap (λ (f : TalkFault). is_of_journal (Talk f)) is) ∙ other)
+  where
+    untrue : true ≡ false → ⊥
+    untrue e = cc

@@ -1,4 +1,5 @@
-use Rattle.desk_talk.proofs.Closed.{ended_named, ended_told, talk_unsealed}
+use Rattle.seat_disk.proofs.Keeping.{no_more}
+use Rattle.desk_talk.proofs.Closed.{ended_named, ended_told, few_ended, still_named, talk_unsealed}
 use Rattle.desk_talk.proofs.closing.serve_sealed.Goals as goal
 
 pub returns-in-Ok-seal_closed-clause-accepted : goal.returns-in-Ok-seal_closed-clause-accepted
@@ -26,3 +27,21 @@ returns-in-Err-seal_closed-clause-over g c =
     (g.W.Write.contents c.args.out.now) (g.W.Write.contents c.serve_desk.new.out) c.args.host.serving.grid c.args.host.serving.cap c.in-Ok.served.0
     (g.D.Tape.seen c.in-Ok.served.1) (g.D.Tape.may_leave c.in-Ok.served.1) (g.D.Tape.unsynced c.in-Ok.served.1)
     c.in-Ok.ensures.front c.in-Ok.ensures.ended c.in-Ok.ensures.talk c.in-Err-seal_closed.ensures.large
+
+pub returns-in-Err-clause-agrees : goal.returns-in-Err-clause-agrees
+returns-in-Err-clause-agrees g c =
+    still_named c.args.host.serving.kept (g.K.Replaced.may_leave c.args.seals.now) c.requires.named (g.D.Tape.may_leave c.in-Err.refused.1)
+    c.in-Err.ensures.told
+
+pub returns-in-Err-clause-only : goal.returns-in-Err-clause-only
+returns-in-Err-clause-only g c = no_more (g.K.Replaced.kept_may_leave c.args.seals.now)
+
+pub returns-in-Ok-seal_closed-clause-sealed : goal.returns-in-Ok-seal_closed-clause-sealed
+returns-in-Ok-seal_closed-clause-sealed g c = c.in-Ok-seal_closed.ensures.ok
+
+pub seal_closed-requires : goal.seal_closed-requires
+seal_closed-requires g c =
+    record {
+      few = few_ended c.args.host.serving.grid c.args.host.serving.cap c.in-Ok.served.0 (g.D.Tape.seen c.in-Ok.served.1) (g.D.Tape.may_leave c.in-Ok.served.1)
+          (g.D.Tape.unsynced c.in-Ok.served.1) c.in-Ok.ensures.ended c.requires.cap;
+    }

@@ -1,9 +1,9 @@
 use Rattle.std.proofs.Common.{List, ℕ, inl, refl, rules, subst}
 use Rattle.std.specs.Io.KnownBytes.{Appends}
 use Rattle.desk_answers.specs.FaultLines.{memory_line}
-use Rattle.desk_talk.proofs.Talking.{same_host, wanting_told}
+use Rattle.desk_talk.proofs.Talking.{ends_untold, same_host, wanting_told}
 use Rattle.airline_base.specs.Noting.{TookFront}
-use Rattle.desk_talk.proofs.Broken.{breaks_told, breaks_wanting}
+use Rattle.desk_talk.proofs.Broken.{breaks_journal, breaks_silent, breaks_told, breaks_wanting}
 use Rattle.desk_talk.proofs.piece.tell.Goals as goal
 
 pub returns-in-Err-Memory-clause-tells : goal.returns-in-Err-Memory-clause-tells
@@ -37,3 +37,18 @@ returns-clause-broken g c =
     (g.W.Write.contents c.args.out.now) (g.W.Write.contents c.put_all.new.out) c.requires.ready c.in-Ok.ensures.told c.in-Ok.ensures.ready
     (inl (record { same_host = same_host c.args.host.now c.hear.new.self c.in-Ok.ensures.same; heard = c.in-Ok.heard; answered = c.in-Ok.ensures.answered; stays_is = refl; says = refl }))
     (subst (λ (t : List ℕ). TookFront (g.W.Write.contents c.args.out.now) (g.W.Write.contents c.put_all.new.out) t) c.as_slice.ensures.value c.in-Err.ensures.front)
+
+pub returns-in-Err-Device-clause-broken : goal.returns-in-Err-Device-clause-broken
+returns-in-Err-Device-clause-broken g c =
+    breaks_journal g.D.Tape.seen g.D.Tape.may_leave g.D.Tape.unsynced c.args.host.now c.args.line.now c.no_journal.result
+    (g.D.Tape.may_leave c.hear.new.self.serving.tape) (g.W.Write.contents c.args.out.now) (g.W.Write.contents c.no_journal.new.out)
+    c.no_journal.ensures.value c.requires.ready c.hear.ensures.told c.no_journal.ensures.says
+
+pub returns-in-Err-Untold-clause-broken : goal.returns-in-Err-Untold-clause-broken
+returns-in-Err-Untold-clause-broken g c =
+    breaks_silent g.D.Tape.seen g.D.Tape.may_leave g.D.Tape.unsynced c.args.host.now c.args.line.now
+    (g.D.Tape.may_leave c.hear.new.self.serving.tape) (g.W.Write.contents c.args.out.now) c.requires.ready c.hear.ensures.told
+
+pub returns-in-Err-Untold-clause-memory : goal.returns-in-Err-Untold-clause-memory
+returns-in-Err-Untold-clause-memory g c = λ _.
+    ends_untold c.args.host.now c.hear.new.self c.args.line.now (c.in-Err-Untold.ensures.untold c.in-Err-Untold.field-0-is)

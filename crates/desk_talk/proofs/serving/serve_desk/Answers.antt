@@ -1,6 +1,6 @@
 use Rattle.std.proofs.Common.{rules}
 use Rattle.desk_talk.specs.declared.talk_fault.TalkFault.TheVariants.{Memory as NoMemory}
-use Rattle.desk_talk.proofs.Ended.{broken_left, kept_on, talk_fault_is, talk_to, talked_out, untold_in}
+use Rattle.desk_talk.proofs.Ended.{broken_left, ended_so, kept_on, left_open, other_fault, talk_fault_is, talk_to, talked_out, untold_in}
 use Rattle.desk_talk.proofs.serving.serve_desk.Goals as goal
 
 pub returns-in-Ok-end-clause-talk : goal.returns-in-Ok-end-clause-talk
@@ -28,3 +28,15 @@ returns-in-Err-clause-broken g c = λ t is.
     broken_left g.D.Tape.may_leave c.args.host c.talk-talked.new.host c.into_serving-serving.result c.close.result c.in-Err.fault t (g.I.Read.remaining c.args.input.now)
     (g.W.Write.contents c.args.out.now) (g.W.Write.contents c.talk-talked.new.out) (search rules) c.close.ensures.tape
     (talk_fault_is c.in-Err.fault t is) c.in-Err.ensures.broken
+
+pub returns-in-Ok-end-clause-ended : goal.returns-in-Ok-end-clause-ended
+returns-in-Ok-end-clause-ended g c =
+    ended_so c.args.host c.talk-talked.new.host c.into_serving-serving.result c.in-Ok-end.ended.0 (g.D.Tape.seen c.in-Ok-end.ended.1)
+    (g.D.Tape.may_leave c.in-Ok-end.ended.1) (g.D.Tape.unsynced c.in-Ok-end.ended.1) c.in-Ok.ensures.same (search rules)
+    c.in-Ok-end.ensures.headline c.in-Ok-end.ensures.journal c.in-Ok-end.ensures.text c.in-Ok-end.ensures.disk c.in-Ok-end.ensures.synced
+    c.in-Ok-end.ensures.readable c.in-Ok-end.ensures.faultless
+
+pub returns-in-Err-clause-open : goal.returns-in-Err-clause-open
+returns-in-Err-clause-open g c = λ other.
+    left_open g.D.Tape.seen g.D.Tape.may_leave g.D.Tape.unsynced c.args.host c.talk-talked.new.host c.into_serving-serving.result c.close.result
+    (c.in-Err.ensures.still (other_fault c.in-Err.fault other)) (search rules) c.close.ensures.tape c.talk-talked.ensures.front
