@@ -22,3 +22,10 @@ returns-clause-legs g c =
     on_legs c.args.flights.now limits c.args.today c.loop-number.all.items
     (flights_put limits c.args.today c.loop-number.number c.args.flights.now (closings_from limits c.args.today 0 c.args.flights.now)
     c.loop-number.all.items over c.loop-number.invariant)
+
+pub returns-clause-value : goal.returns-clause-value
+returns-clause-value g c =
+    let limits : Ladders = (replay c.args.serving.now.grid c.args.serving.now.journal).grid in
+    let over : length c.args.flights.now ≤ c.loop-number.number = omega (arith, c.loop-number-test.false, c.len-number-end.ensures.value) in
+    flights_put limits c.args.today c.loop-number.number c.args.flights.now (closings_from limits c.args.today 0 c.args.flights.now)
+    c.loop-number.all.items over c.loop-number.invariant
