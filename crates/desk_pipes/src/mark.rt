@@ -5,7 +5,7 @@ ghost use Rattle.desk_pipes.specs.Marks.{SeesOn};
 /// The bytes of a mark: `!?HOST `, a word of sixteen letters, and its end. `!` spoils the half of a line that stands ahead of it.
 const BYTES: usize = 24;
 
-const BEGIN: &[u8] = b"!?HOST ";
+const BEGIN: [u8; 7] = *b"!?HOST ";
 
 /// The letters of a word, one for each half of a byte.
 const LETTERS: [u8; 16] = *b"ABCDEFGHIJKLMNOP";
@@ -20,12 +20,11 @@ impl Mark {
     /// By eight bytes that were drawn.
     pub fn of(drawn: [u8; 8]) -> Mark {
         let mut bytes = [b'\n'; BYTES];
-        for (byte, begin) in bytes.iter_mut().zip(BEGIN) {
-            *byte = *begin;
+        for place in 0..BEGIN.len() {
+            bytes[place] = BEGIN[place];
         }
-        let word = bytes.iter_mut().skip(BEGIN.len());
-        for (place, byte) in word.take(16).enumerate() {
-            *byte = letter(drawn[place / 2 % 8], place % 2 == 0);
+        for place in 0..16 {
+            bytes[BEGIN.len() + place] = letter(drawn[place / 2], place % 2 == 0);
         }
         Mark { bytes }
     }
