@@ -1,18 +1,19 @@
 -- What is refused, or fails, behind a set and limits that are right.
-use Rattle.std.proofs.Common.{◌≡◌, ◌≤◌, ◌⊎◌, inl, inr, ℕ, List, Option, Some, None, IfSome, length, map, subst, ap, arith, ◌∙◌}
+use Rattle.std.proofs.Common.{◌≡◌, ◌≤◌, ◌⊎◌, inl, inr, ℕ, List, Option, Some, None, IfSome, Result, Ok, Err, IfErr, IfOk, length, map, subst, ap, arith, ◌∙◌}
 use Rattle.std.proofs.lemmas.List.{length-map}
 use Rattle.ssim_flights.specs.declared.flight.Flight.{Flight as Flown}
 use Rattle.seat_limits.specs.Authorised.{authorised_grid, authorised_legs}
 use Rattle.seat_limits.specs.declared.limit_row.LimitRow.{LimitRow}
 use Rattle.seat_nesting.specs.Nesting.{Ladders}
+use Rattle.seat_rules.specs.declared.totals.Totals.{Totals}
 use Rattle.seat_desk.specs.Loading.{Bytes, HasFirstLoadFailed, IsGround, IsGroundOf}
 use Rattle.seat_desk.specs.declared.inputs.Inputs.{Inputs}
-use Rattle.seat_desk.specs.declared.fault.DeskFault.TheVariants.{Device, Memory}
+use Rattle.seat_desk.specs.declared.fault.DeskFault.TheVariants.{Device, Memory, TooLarge}
 use Rattle.seat_shards.specs.declared.fault.ShardFault.{ShardFault}
 use Rattle.seat_shards.specs.declared.fault.ShardFault.TheVariants.{Desk, Journal, Shared}
-use Rattle.seat_shards.specs.Auditing.{HasFirstFailed, IsFirstFailed, IsRefusedOver, IsRefusedShards, IsRefusedShardsOf}
+use Rattle.seat_shards.specs.Auditing.{HasFirstFailed, IsFirstFailed, IsRefusedOver, IsRefusedShards, IsRefusedShardsOf, IsTotalled, IsTotalledOf}
 use Rattle.seat_shards.specs.Faults.{IsOfJournal, IsOfJournals, IsOfShards}
-use Rattle.seat_shards.specs.Taking.{known, HasFailedAmong, IsFirstRefused}
+use Rattle.seat_shards.specs.Taking.{known, AreTotalled, HasFailedAmong, IsFirstRefused}
 
 -- the grid has a row of legs for each flight
 pub as_many : (flights : List Flown) (rows : List LimitRow) (grid : Ladders) → grid ≡ authorised_grid rows flights
@@ -68,3 +69,58 @@ failed_over_ground set limits of_set of_limits remaining of_journal old new olds
     by None y g = tt
     by (Some xs) None g = tt
     by (Some xs) (Some ys) g = record { flights = flights; rows = rows; is_ground = g; failed = subst P is failed }
+
+-- ---- what the journals are answered
+
+totalled_over_ground : {S L : Type 0} → (set : Bytes S) (limits : Bytes L) (inputs : Inputs S L) (readers : List (Option (List ℕ)))
+    (flights : List Flown) (rows : List LimitRow) (grid : Ladders) (totals : Totals) → IsGroundOf set limits inputs flights rows
+    → grid ≡ authorised_grid rows flights → IfSome (known readers) (λ texts. AreTotalled grid texts totals)
+    → IsTotalledOf set limits inputs readers totals
+totalled_over_ground set limits inputs readers flights rows grid totals ground is all =
+    by (set inputs.set) (limits inputs.limits) (known readers) ground all
+  where
+    by : (x y : Option (List ℕ)) (z : Option (List (List ℕ)))
+        → IfSome x (λ xs. IfSome y (λ ys. IsGround xs ys inputs.first inputs.days flights rows))
+        → IfSome z (λ texts. AreTotalled grid texts totals)
+        → IfSome x (λ xs. IfSome y (λ ys. IfSome z (λ zs. IsTotalled xs ys inputs.first inputs.days zs totals)))
+    by None y z g r = tt
+    by (Some xs) None z g r = tt
+    by (Some xs) (Some ys) None g r = tt
+    by (Some xs) (Some ys) (Some zs) g r = record {
+      flights = flights;
+      rows = rows;
+      is_ground = g;
+      are_totalled = subst (λ (l : Ladders). AreTotalled l zs totals) is r;
+    }
+
+pub answers_totals : {S L : Type 0} → (set : Bytes S) (limits : Bytes L) (inputs : Inputs S L) (readers : List (Option (List ℕ)))
+    (flights : List Flown) (rows : List LimitRow) (grid : Ladders) (answer : Result Totals ShardFault)
+    → IsGroundOf set limits inputs flights rows → grid ≡ authorised_grid rows flights
+    → IfOk answer (λ totals. IfSome (known readers) (λ texts. AreTotalled grid texts totals))
+    → IfOk answer (IsTotalledOf set limits inputs readers)
+answers_totals set limits inputs readers flights rows grid (Ok totals) ground is all =
+    totalled_over_ground set limits inputs readers flights rows grid totals ground is all
+answers_totals set limits inputs readers flights rows grid (Err fault) ground is all = tt
+
+pub answers_refusal : {S L : Type 0} → (set : Bytes S) (limits : Bytes L) (inputs : Inputs S L) (readers : List (Option (List ℕ)))
+    (flights : List Flown) (rows : List LimitRow) (grid : Ladders) (answer : Result Totals ShardFault)
+    → IsGroundOf set limits inputs flights rows → grid ≡ authorised_grid rows flights → IfErr answer IsOfJournals
+    → IfErr answer (λ f. IsOfJournal f → IfSome (known readers) (λ texts. IsFirstRefused grid texts f))
+    → IfErr answer (λ f. IsOfShards f → IsRefusedShardsOf set limits inputs readers f)
+answers_refusal set limits inputs readers flights rows grid (Ok totals) ground is kind refused = tt
+answers_refusal set limits inputs readers flights rows grid (Err fault) ground is kind refused =
+    λ of. refused_over_ground set limits inputs readers flights rows grid fault ground is kind refused of
+
+pub answers_failure : {S L J : Type 0} → (set : Bytes S) (limits : Bytes L) (of_set : S → ℕ) (of_limits : L → ℕ) (remaining : Bytes J)
+    (of_journal : J → ℕ) (old new : Inputs S L) (olds news : List J) (flights : List Flown) (rows : List LimitRow) (grid : Ladders)
+    (answer : Result Totals ShardFault) → IsGroundOf set limits old flights rows → grid ≡ authorised_grid rows flights
+    → IfErr answer (λ f. f ≡ Desk Device → HasFailedAmong grid (map remaining olds) of_journal olds news)
+    → IfErr answer (λ f. f ≡ Desk Device → HasFirstFailed set limits of_set of_limits remaining of_journal old new olds news)
+answers_failure set limits of_set of_limits remaining of_journal old new olds news flights rows grid (Ok totals) ground is failed = tt
+answers_failure set limits of_set of_limits remaining of_journal old new olds news flights rows grid (Err fault) ground is failed =
+    λ device. failed_over_ground set limits of_set of_limits remaining of_journal old new olds news flights rows grid ground is (failed device)
+
+pub never_too_large : (P : Type 0) (answer : Result Totals ShardFault) → IfErr answer IsOfJournals
+    → IfErr answer (λ f. f ≡ Desk TooLarge → P)
+never_too_large P (Ok totals) kind = tt
+never_too_large P (Err fault) kind = λ large. absurd (subst IsOfJournals large kind)

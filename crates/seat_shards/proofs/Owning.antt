@@ -12,7 +12,7 @@ use Rattle.seat_rules.specs.Journal.{FitsWork, IsLegal}
 use Rattle.seat_rules.specs.Prefixes.{Begins}
 use Rattle.seat_parts.proofs.Flights.{fitting_there, nowhere}
 use Rattle.seat_shards.specs.declared.taking.Taken.{Taken}
-use Rattle.seat_shards.specs.Owners.{has_line, owner_at, AreWithin, IsWithin, OwnsLine, OwnsNone, OwnsToo}
+use Rattle.seat_shards.specs.Owners.{first_owned, has_line, owner_at, AreWithin, IsWithin, OwnsLine, OwnsNone, OwnsToo}
 use Rattle.seat_shards.specs.Taking.{HasPlaces}
 
 pub or_false : (b : Bool) → (b || false) ≡ b
@@ -101,6 +101,17 @@ pub legal_within : (grid : Ladders) (n : ℕ) (entries : List Entry) → IsLegal
 legal_within grid n entries legal room = record {
   each = λ front e b. fits_within grid n e.work (legal.each front e b).fits room;
 }
+
+-- what was found is so of the list and the lines that were looked at
+pub looked : (owners list : List ℕ) (entries lines : List Entry) (found : Option (ℕ × ℕ)) → list ≡ owners → lines ≡ entries
+    → found ≡ first_owned list lines → first_owned owners entries ≡ found
+looked owners list entries lines found owners_is lines_are is =
+    sym (is ∙ (ap (λ (l : List ℕ). first_owned l lines) owners_is ∙ ap (first_owned owners) lines_are))
+
+pub owned_by : (place next : ℕ) (old new : List ℕ) (entries lines : List Entry) → place ≡ next → lines ≡ entries
+    → OwnsToo place old new lines → OwnsToo next old new entries
+owned_by place next old new entries lines place_is lines_are owns =
+    subst (λ (n : ℕ). OwnsToo n old new entries) place_is (subst (λ (es : List Entry). OwnsToo place old new es) lines_are owns)
 
 -- ---- one line
 

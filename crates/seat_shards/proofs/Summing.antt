@@ -69,6 +69,20 @@ failed_behind {D} grid remaining taken mid failures all old new olds news is one
     let P : List D → Type 0 = λ l. HasFailedOn grid (map remaining l) taken failures l (new ∷ news) in
     subst P (sym is) (failed_later grid (remaining old) (map remaining olds) taken mid failures old new olds news one more)
 
+pub taken_behind : {D : Type 0} → (grid : Ladders) (remaining : D → Option (List ℕ)) (old mid new : Taken) (all : List D) (one : D)
+    (later : List D) → all ≡ one ∷ later → IfSome (remaining one) (IsTakenWith grid old mid) → AreTakenOn grid (map remaining later) mid new
+    → AreTakenOn grid (map remaining all) old new
+taken_behind {D} grid remaining old mid new all one later is first more =
+    subst (λ (l : List D). AreTakenOn grid (map remaining l) old new) (sym is)
+    (taken_more grid (remaining one) (map remaining later) old mid new first more)
+
+pub refused_among_later : {D : Type 0} → (grid : Ladders) (remaining : D → Option (List ℕ)) (old mid : Taken) (fault : ShardFault)
+    (all : List D) (one : D) (later : List D) → all ≡ one ∷ later → IfSome (remaining one) (IsTakenWith grid old mid)
+    → IsRefusedOn grid (map remaining later) mid fault → IsRefusedOn grid (map remaining all) old fault
+refused_among_later {D} grid remaining old mid fault all one later is first more =
+    subst (λ (l : List D). IsRefusedOn grid (map remaining l) old fault) (sym is)
+    (refused_later grid (remaining one) (map remaining later) old mid fault first more)
+
 -- ---- lines on a flight
 
 left_false : (a b : Bool) → (a || b) ≡ false → a ≡ false
