@@ -1,3 +1,4 @@
+pub mod Adding
 pub mod Calendar
 pub mod EntryLaws
 pub mod EraText
