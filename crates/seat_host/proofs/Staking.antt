@@ -1,6 +1,6 @@
 -- The shares that are left, and the sessions that have one.
-use Rattle.std.proofs.Common.{◌≡◌, ℕ, suc, ◌+◌, ◌-◌, ◌≤◌, List, [], ◌∷◌, ◌++◌, Option, Some, None, length, length-append, ap, sym, ◌∙◌, arith}
-use Rattle.std.specs.Prelude.{option_to_list, IsSome, ◌<◌}
+use Rattle.std.proofs.Common.{◌≡◌, ℕ, zero, suc, ◌+◌, ◌-◌, ◌≤◌, List, [], ◌∷◌, ◌++◌, Option, Some, None, length, length-append, refl, ap, sym, ◌∙◌, arith}
+use Rattle.std.specs.Prelude.{option_to_list, slice_index, slice_set, IsSome, ◌<◌}
 use Rattle.seat_host.specs.Ledgers.{Staked, counted, stakes_left}
 use Rattle.seat_rules.proofs.History.Prefixes.{push_same}
 
@@ -25,3 +25,19 @@ popped n was rest None high is split some = absurd (cc (some (omega (arith, ap l
 popped n was rest (Some s) high is split some =
     let p = take_last n was rest s high is split in
     (p.0, ap Some p.1)
+
+-- where no line more is counted, all stays
+set_same : (xs : List ℕ) (i : ℕ) → slice_set xs i (slice_index xs i) ≡ xs
+set_same [] i = refl
+set_same (x ∷ xs) zero = refl
+set_same (x ∷ xs) (suc i) = ap (λ (l : List ℕ). x ∷ l) (set_same xs i)
+
+pub counts_same : (was now : List ℕ) (i : ℕ) → now ≡ slice_set was i (slice_index was i + 0) → now ≡ was
+counts_same was now i is =
+    let none : slice_index was i + 0 ≡ slice_index was i = omega arith in
+    is ∙ ap (slice_set was i) none ∙ set_same was i
+
+pub stake_same : (was now : Staked) → now ≡ counted was.number (was.amount + 0) → now ≡ was
+stake_same was now is =
+    let none : was.amount + 0 ≡ was.amount = omega arith in
+    is ∙ ap (counted was.number) none

@@ -99,18 +99,12 @@ impl<K: Hosting, const N: u8> Whole<K, N> {
         Whole { share }
     }
 
-    // Changes nothing.
-    fn audit(&mut self, book: &mut Book<Numbered<K, N>>)
-        ensures same { (book.new.total ≡ book.old.total) × (self.new ≡ self.old) }
+    // Counts so many lines more. It had as many as the book.
+    fn add(&mut self, book: &mut Book<Numbered<K, N>>, more: u64)
+        ensures added { (book.new.total ≡ book.old.total + more) × (self.new ≡ self.old + more) }
         ensures whole { self.old ≡ book.old.total }
     {
         book.audit(&mut self.share);
-    }
-
-    // Counts so many lines more.
-    fn add(&mut self, book: &mut Book<Numbered<K, N>>, more: u64)
-        ensures { (book.new.total ≡ book.old.total + more) × (self.new ≡ self.old + more) }
-    {
         book.add(&mut self.share, more);
     }
 }
@@ -145,21 +139,12 @@ impl<K: Hosting> Model for Stake<K> {
 
 impl<K: Hosting> LineCounts<K> {
     /// Changes nothing: the share has every part, so its amount is the book's total.
+    #[tactic(auto, using(crate::proofs::Staking::counts_same, crate::proofs::Staking::stake_same))]
     pub fn audit(&mut self, mine: &mut Stake<K>)
         ensures same { (self.new ≡ self.old) × (mine.new ≡ mine.old) }
         ensures whole { mine.old.amount ≡ slice_index self.old mine.old.number }
     {
-        match &mut mine.share {
-            AnyShare::Zero(share) => share.audit(&mut self.zero),
-            AnyShare::One(share) => share.audit(&mut self.one),
-            AnyShare::Two(share) => share.audit(&mut self.two),
-            AnyShare::Three(share) => share.audit(&mut self.three),
-            AnyShare::Four(share) => share.audit(&mut self.four),
-            AnyShare::Five(share) => share.audit(&mut self.five),
-            AnyShare::Six(share) => share.audit(&mut self.six),
-            AnyShare::Seven(share) => share.audit(&mut self.seven),
-            AnyShare::Eight(share) => share.audit(&mut self.eight),
-        }
+        self.count(mine, 0);
     }
 
     /// Counts one line more of the share's session.
@@ -174,6 +159,15 @@ impl<K: Hosting> LineCounts<K> {
     pub fn add_all(&mut self, mine: &mut Stake<K>, more: u64)
         ensures mine { mine.new ≡ counted mine.old.number (mine.old.amount + more) }
         ensures total { self.new ≡ slice_set self.old mine.old.number (slice_index self.old mine.old.number + more) }
+    {
+        self.count(mine, more);
+    }
+
+    // Counts so many lines more of the share's session, whose amount is its book's total.
+    fn count(&mut self, mine: &mut Stake<K>, more: u64)
+        ensures mine { mine.new ≡ counted mine.old.number (mine.old.amount + more) }
+        ensures total { self.new ≡ slice_set self.old mine.old.number (slice_index self.old mine.old.number + more) }
+        ensures whole { mine.old.amount ≡ slice_index self.old mine.old.number }
     {
         match &mut mine.share {
             AnyShare::Zero(share) => share.add(&mut self.zero, more),

@@ -14,3 +14,15 @@ seated-requires-clause-stake g c =
     let many : c.len.result ≡ length c.in_ok-receipts.receipts.items = omega (arith, c.len.ensures, c.in_ok-receipts.receipts.ok) in
     stake_seated g.K.Hosting.book g.K.Hosting.grid c.args.id c.args.stakes.now c.len.result c.args.lines.now c.in_ok-receipts.receipts.items c.args.line_counts.now c.args.viewers.now.items c.in-Some.stake c.add_all.new.mine
     c.requires.seating c.in-Some.ensures.stake many c.add_all.ensures.mine
+
+pub take-requires : goal.take-requires
+take-requires g c = omega (arith, c.requires.seating.next_is, c.requires.number.0, c.requires.number.1)
+
+pub take_viewer-requires-clause-some : goal.take_viewer-requires-clause-some
+take_viewer-requires-clause-some g c = c.requires.some
+
+pub take_viewer-requires-clause-new : goal.take_viewer-requires-clause-new
+take_viewer-requires-clause-new g c = c.requires.seating.new
+
+pub seated-requires-clause-number : goal.seated-requires-clause-number
+seated-requires-clause-number g c = c.requires.number

@@ -8,3 +8,12 @@ loop-seated-preserved g c = record {
   len = omega (arith, c.loop-seated.invariant.len, c.in_ok-party.ensures.len);
   all = seated_more c.loop-seated.seats.items c.push.new.self.items c.in_ok-party.party c.loop-seated.seated c.args.lines.now c.loop-seated.invariant.all c.in_ok-push.ensures.items c.in_ok-party.ensures.party;
 }
+
+pub seat_next-requires-clause-few : goal.seat_next-requires-clause-few
+seat_next-requires-clause-few g c = c.requires.few
+
+pub seat_next-requires-clause-display : goal.seat_next-requires-clause-display
+seat_next-requires-clause-display g c = c.requires.display
+
+pub seat_next-requires-clause-seating : goal.seat_next-requires-clause-seating
+seat_next-requires-clause-seating g c = c.loop-seated.invariant.seating
