@@ -46,11 +46,12 @@ returns-in-Err-clause-kind g c =
     subst IsOfJournals (sym c.of_journal.ensures) (of_journals c.args.place c.in-Err.fault)
 
 pub returns-in-Some-clause-fault : goal.returns-in-Some-clause-fault
-returns-in-Some-clause-fault g c = λ of.
-    (c.requires.next,
-    record {
-      entries = c.in-Ok-alone.text.entries;
-      own = c.in-Ok-alone.text.totals;
-      read = c.in-Ok-alone.ensures.ok;
-      first = looked c.args.taken.now.owners.items c.deref.result.now c.in-Ok-alone.text.entries c.as_slice.result.now c.first_owned.result c.deref.ensures.value c.as_slice.ensures c.first_owned.ensures ∙ c.in-Some.is;
-    })
+returns-in-Some-clause-fault g c = λ of. (
+  c.requires.next,
+  record {
+    entries = c.in-Ok-alone.text.entries;
+    own = c.in-Ok-alone.text.totals;
+    read = c.in-Ok-alone.ensures.ok;
+    first = looked c.args.taken.now.owners.items c.deref.result.now c.in-Ok-alone.text.entries c.as_slice.result.now c.first_owned.result c.deref.ensures.value c.as_slice.ensures c.first_owned.ensures ∙ c.in-Some.is;
+  },
+)
