@@ -126,6 +126,13 @@ module _ {D : Type 0} (seen : D → Option (List ℕ)) (leaves : D → List ℕ 
   abbrev Talks : Attended D → List ℕ → List ℕ → Attended D → List ℕ → Bool → Option (List ℕ) → Option (List ℕ) → ℕ → ℕ → Type 0
   Talks = TalksOn seen leaves unsynced failures
 
+  -- what a crash leaves of a host that is ready has what it kept
+  pub ready_told : (host : Attended D) → IsReady seen leaves unsynced host.serving → KeepsFront (open_text host.serving.kept) (leaves host.serving.tape)
+  ready_told host ready = λ c may.
+      subst (λ (l : List Entry). HasFront (open_text l) c) (sym ready.kept_is)
+      (subst (λ (x : List ℕ). HasFront (open_text host.serving.journal) x) (sym (ready.disk.only c may))
+      (record { no_shorter = omega arith; each = λ i lt. refl }))
+
   -- memory was wanting for a line, which is told where that can be written
   pub wanting_told : (old new : Attended D) (line text : List ℕ) (a b : Option (List ℕ)) (m n : ℕ) (r : Result Bool TalkFault)
       → IfOk r (λ (stays : Bool). (stays ≡ true) × Appends a b text × (n ≡ m)) → text ≡ memory_line new.session new.desk.lines

@@ -1,8 +1,9 @@
 use Rattle.std.proofs.Common.{◌≡◌, List, ℕ, [], refl, rules, subst, true, ◌∙◌}
 use Rattle.std.specs.Io.KnownBytes.{Appends}
 use Rattle.std.proofs.lemmas.Result.{err_from_is_err_and}
-use Rattle.desk_talk.proofs.Talking.{behind_all, front_before, grown_behind, reads_none, reads_on, talk_is, told_before}
-use Rattle.desk_talk.proofs.Broken.{talk_broken}
+use Rattle.airline_base.specs.Noting.{TookFront}
+use Rattle.desk_talk.proofs.Talking.{begins_all, behind_all, front_before, grown_behind, reads_none, reads_on, ready_told, talk_is, told_before}
+use Rattle.desk_talk.proofs.Broken.{half_ready, talk_broken}
 use Rattle.desk_talk.proofs.talks.talk.Goals as goal
 
 pub loop-init : goal.loop-init
@@ -60,3 +61,22 @@ loop-preserved g c = (
       c.in_ok-turn.field-0 _ _ _ _ _ _ _ _ _ c.loop.invariant.0 c.in_ok-turn.ensures.turns c.if-not-branch.false,
   c.in_ok-turn.ensures.counted ∙ c.loop.invariant.1,
 )
+
+pub returns-in_default-clause-broken : goal.returns-in_default-clause-broken
+returns-in_default-clause-broken g c =
+    half_ready g.D.Tape.seen g.D.Tape.may_leave g.D.Tape.unsynced g.D.Failures.failure_count c.args.host.now _ c.ready_of-ready.result.items
+    (g.I.Read.remaining c.args.input.now) (g.W.Write.contents c.args.out.now) (g.W.Write.contents c.put_all.new.out) refl c.requires.ready
+    c.ready_of-ready.ensures
+    (subst (λ (t : List ℕ). TookFront (g.W.Write.contents c.args.out.now) (g.W.Write.contents c.put_all.new.out) t) c.as_slice.ensures.value
+    c.in_default.ensures.front)
+
+pub returns-in_default-clause-front : goal.returns-in_default-clause-front
+returns-in_default-clause-front g c = begins_all c.args.host.now.serving.kept
+
+pub returns-in_default-clause-told : goal.returns-in_default-clause-told
+returns-in_default-clause-told g c = ready_told g.D.Tape.seen g.D.Tape.may_leave g.D.Tape.unsynced g.D.Failures.failure_count c.args.host.now c.requires.ready
+
+pub returns-in_err-turn-clause-still : goal.returns-in_err-turn-clause-still
+returns-in_err-turn-clause-still g c =
+    let p = err_from_is_err_and c.from_residual.result c.from_residual.ensures.1 in
+    rw (p.1, p.2) c.in_err-turn.ensures.still
