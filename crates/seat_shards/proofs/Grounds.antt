@@ -6,12 +6,13 @@ use Rattle.seat_limits.specs.Authorised.{authorised_grid, authorised_legs}
 use Rattle.seat_limits.specs.declared.limit_row.LimitRow.{LimitRow}
 use Rattle.seat_nesting.specs.Nesting.{Ladders}
 use Rattle.seat_rules.specs.declared.totals.Totals.{Totals}
+use Rattle.seat_desk.specs.AuditDesk.{audit_line}
 use Rattle.seat_desk.specs.Loading.{Bytes, HasFirstLoadFailed, IsGround, IsGroundOf}
 use Rattle.seat_desk.specs.declared.inputs.Inputs.{Inputs}
 use Rattle.seat_desk.specs.declared.fault.DeskFault.TheVariants.{Device, Memory, TooLarge}
 use Rattle.seat_shards.specs.declared.fault.ShardFault.{ShardFault}
 use Rattle.seat_shards.specs.declared.fault.ShardFault.TheVariants.{Desk, Journal, Shared}
-use Rattle.seat_shards.specs.Auditing.{HasFirstFailed, IsFirstFailed, IsRefusedOver, IsRefusedShards, IsRefusedShardsOf, IsTotalled, IsTotalledOf}
+use Rattle.seat_shards.specs.Auditing.{HasFirstFailed, IsFirstFailed, IsRefusedOver, IsRefusedShards, IsRefusedShardsOf, IsShardsAnswer, IsShardsAnswerOf, IsTotalled, IsTotalledOf}
 use Rattle.seat_shards.specs.Faults.{IsOfJournal, IsOfJournals, IsOfShards}
 use Rattle.seat_shards.specs.Taking.{known, AreTotalled, HasFailedAmong, IsFirstRefused}
 
@@ -124,3 +125,15 @@ pub never_too_large : (P : Type 0) (answer : Result Totals ShardFault) → IfErr
     → IfErr answer (λ f. f ≡ Desk TooLarge → P)
 never_too_large P (Ok totals) kind = tt
 never_too_large P (Err fault) kind = λ large. absurd (subst IsOfJournals large kind)
+
+pub says_totals : {S L : Type 0} → (set : Bytes S) (limits : Bytes L) (inputs : Inputs S L) (readers : List (Option (List ℕ)))
+    (totals : Totals) (line : List ℕ) → IsTotalledOf set limits inputs readers totals → line ≡ audit_line totals
+    → IsShardsAnswerOf set limits inputs readers line
+says_totals set limits inputs readers totals line all says = by (set inputs.set) (limits inputs.limits) (known readers) all where
+  by : (x y : Option (List ℕ)) (z : Option (List (List ℕ)))
+      → IfSome x (λ xs. IfSome y (λ ys. IfSome z (λ zs. IsTotalled xs ys inputs.first inputs.days zs totals)))
+      → IfSome x (λ xs. IfSome y (λ ys. IfSome z (λ zs. IsShardsAnswer xs ys inputs.first inputs.days zs line)))
+  by None y z r = tt
+  by (Some xs) None z r = tt
+  by (Some xs) (Some ys) None r = tt
+  by (Some xs) (Some ys) (Some zs) r = record { totals = totals; is = r; says = says }
