@@ -5,6 +5,7 @@ mod Beginnings
 pub mod Inputs
 mod Changing
 pub mod Reading
+mod ReadOn
 pub mod Written
 pub mod Seals
 pub mod Starts
