@@ -1,7 +1,7 @@
-use Rattle.std.proofs.Common.{arith}
-use Rattle.desk_serving.proofs.Daily.{by_inventory, counts_behind, fails_by_behind, sealed_further, stays_behind}
-use Rattle.desk_serving.proofs.Goes.{fails_behind, goes_further}
-use Rattle.desk_serving.proofs.Groups.{is_group, taken_more}
+use Rattle.std.proofs.Common.{arith, refl}
+use Rattle.desk_serving.proofs.Daily.{by_inventory, counts_behind, fails_by_behind, sealed_further, stays_behind, counts_none, sealed_as, sealed_same}
+use Rattle.desk_serving.proofs.Goes.{fails_behind, goes_further, goes_same}
+use Rattle.desk_serving.proofs.Groups.{is_group, taken_more, none_taken}
 use Rattle.desk_serving.proofs.group.answer_group.Goals as goal
 
 pub returns-in-Err-clause-fails : goal.returns-in-Err-clause-fails
@@ -41,3 +41,36 @@ pub returns-in-Ok-answer_last-clause-group : goal.returns-in-Ok-answer_last-clau
 returns-in-Ok-answer_last-clause-group g c =
     is_group c.args.closes c.args.hall.now c.loop-one.hall c.answer_last.new.hall c.args.said.now c.loop-one.one-index c.loop-one.goes_on
     c.loop-one.invariant.2 (omega (arith, c.loop-one-test.false)) c.in-Ok-answer_last.ensures.answered
+
+pub answer_one-requires-clause-ready : goal.answer_one-requires-clause-ready
+answer_one-requires-clause-ready g c = c.loop-one.invariant.0.is_ready
+
+pub answer_one-requires-clause-dated : goal.answer_one-requires-clause-dated
+answer_one-requires-clause-dated g c = c.loop-one.invariant.1.on_day
+
+pub answer_last-requires-clause-ready : goal.answer_last-requires-clause-ready
+answer_last-requires-clause-ready g c = c.loop-one.invariant.0.is_ready
+
+pub answer_last-requires-clause-dated : goal.answer_last-requires-clause-dated
+answer_last-requires-clause-dated g c = c.loop-one.invariant.1.on_day
+
+pub returns-in-Ok-answer_last-clause-goes : goal.returns-in-Ok-answer_last-clause-goes
+returns-in-Ok-answer_last-clause-goes g c =
+    goes_further g.D.Tape.seen g.D.Tape.may_leave g.D.Tape.unsynced g.D.Failures.failure_count c.args.hall.now.serving c.loop-one.hall.serving c.answer_last.new.hall.serving c.loop-one.invariant.0 c.in-Ok-answer_last.ensures.goes
+
+pub returns-in-Ok-answer_last-clause-sealed : goal.returns-in-Ok-answer_last-clause-sealed
+returns-in-Ok-answer_last-clause-sealed g c =
+    sealed_as g.K.Replaced.named g.K.Replaced.may_leave g.K.Replaced.kept_may_leave g.K.Failures.failure_count c.loop-one.hall.today c.answer_last.new.hall.today c.args.entry.now c.loop-one.entry c.args.seals.now c.loop-one.seals c.answer_last.ensures.day c.loop-one.invariant.1
+
+pub returns-in-Ok-answer_last-clause-stays : goal.returns-in-Ok-answer_last-clause-stays
+returns-in-Ok-answer_last-clause-stays g c = c.loop-one.invariant.1.stays
+
+pub returns-in-Err-answer_last-clause-stays : goal.returns-in-Err-answer_last-clause-stays
+returns-in-Err-answer_last-clause-stays g c = c.loop-one.invariant.1.stays
+
+pub returns-in-Err-answer_last-clause-unsealed : goal.returns-in-Err-answer_last-clause-unsealed
+returns-in-Err-answer_last-clause-unsealed g c = counts_none g.K.Failures.failure_count c.args.seals.now c.loop-one.seals c.in-Err-answer_last.fault
+
+pub loop-one-init : goal.loop-one-init
+loop-one-init g c =
+    (goes_same g.D.Tape.seen g.D.Tape.may_leave g.D.Tape.unsynced g.D.Failures.failure_count c.args.hall.now.serving c.args.hall.now.serving c.requires.ready refl, sealed_same g.K.Replaced.named g.K.Replaced.may_leave g.K.Replaced.kept_may_leave g.K.Failures.failure_count c.args.hall.now.today c.args.hall.now.today c.args.entry.now c.args.seals.now refl c.requires.dated, none_taken c.args.closes c.args.hall.now)
