@@ -28,11 +28,13 @@ close_if-requires-clause-none g c = none_asked c.args.hall.now c.answer_word.new
 
 pub close_if-requires-clause-dated : goal.close_if-requires-clause-dated
 close_if-requires-clause-dated g c =
-    day_as c.args.hall.now.today c.answer_word.new.hall.today c.args.entry.now (g.K.Replaced.may_leave c.args.seals.now) c.requires.dated c.answer_word.ensures.day
+    day_as c.args.hall.now.today c.answer_word.new.hall.today c.args.entry.now (g.K.Replaced.may_leave c.args.seals.now) c.requires.dated
+    c.answer_word.ensures.day
 
 pub returns-in-Ok-clause-goes : goal.returns-in-Ok-clause-goes
 returns-in-Ok-clause-goes g c =
-    goes_further g.D.Tape.seen g.D.Tape.may_leave g.D.Tape.unsynced g.D.Failures.failure_count c.args.hall.now.serving c.answer_word.new.hall.serving c.close_if.new.hall.serving c.in_default.ensures.goes c.in-Ok.ensures.goes
+    goes_further g.D.Tape.seen g.D.Tape.may_leave g.D.Tape.unsynced g.D.Failures.failure_count c.args.hall.now.serving c.answer_word.new.hall.serving
+    c.close_if.new.hall.serving c.in_default.ensures.goes c.in-Ok.ensures.goes
 
 pub returns-in-Ok-clause-day : goal.returns-in-Ok-clause-day
 returns-in-Ok-clause-day g c = c.close_if.ensures.day ∙ c.answer_word.ensures.day

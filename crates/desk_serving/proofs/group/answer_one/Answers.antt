@@ -30,7 +30,8 @@ hear_apart-requires-clause-ready g c = c.in_default.ensures.goes.is_ready
 
 pub hear_apart-requires-clause-dated : goal.hear_apart-requires-clause-dated
 hear_apart-requires-clause-dated g c =
-    day_as c.args.hall.now.today c.answer_heard.new.hall.today c.args.entry.now (g.K.Replaced.may_leave c.args.seals.now) c.requires.dated c.answer_heard.ensures.day
+    day_as c.args.hall.now.today c.answer_heard.new.hall.today c.args.entry.now (g.K.Replaced.may_leave c.args.seals.now) c.requires.dated
+    c.answer_heard.ensures.day
 
 pub returns-then-not-is_apart-clause-one : goal.returns-then-not-is_apart-clause-one
 returns-then-not-is_apart-clause-one g c =
@@ -53,7 +54,8 @@ returns-then-not-is_apart-clause-unsealed g c = c.hear_dated.ensures.unsealed
 
 pub returns-in-Err-clause-fails : goal.returns-in-Err-clause-fails
 returns-in-Err-clause-fails g c =
-    by_inventory g.D.Tape.seen g.D.Tape.may_leave g.D.Tape.unsynced g.D.Failures.failure_count c.args.hall.now.serving c.answer_heard.new.hall.serving c.in-Err.fault c.in-Err.ensures.fails
+    by_inventory g.D.Tape.seen g.D.Tape.may_leave g.D.Tape.unsynced g.D.Failures.failure_count c.args.hall.now.serving c.answer_heard.new.hall.serving
+    c.in-Err.fault c.in-Err.ensures.fails
 
 pub returns-in-Err-clause-stays : goal.returns-in-Err-clause-stays
 returns-in-Err-clause-stays g c =

@@ -47,12 +47,14 @@ returns-clause-count g c = c.hear.ensures.unbooked.1 ∙ c.pass.ensures.counted.
 pub returns-in_err-hear-clause-forgotten : goal.returns-in_err-hear-clause-forgotten
 returns-in_err-hear-clause-forgotten g c =
     on_err_any c.from_residual.result (IsForgotten c.args.hall.now c.hear.new.self c.args.session c.args.passed c.args.line.now)
-    (unheard c.args.hall.now c.pass.new.self c.hear.new.self c.args.session c.args.passed c.args.line.now c.if-session-eq0.false c.pass.ensures.counted c.in_err-hear.ensures.memory)
+    (unheard c.args.hall.now c.pass.new.self c.hear.new.self c.args.session c.args.passed c.args.line.now c.if-session-eq0.false c.pass.ensures.counted
+    c.in_err-hear.ensures.memory)
 
 pub returns-in_err-hear-clause-memory : goal.returns-in_err-hear-clause-memory
 returns-in_err-hear-clause-memory g c =
     on_err_any c.from_residual.result (c.hear.new.self.today ≡ c.args.hall.now.today)
-    (unheard_day c.pass.new.self c.hear.new.self c.args.session c.args.line.now c.in_err-hear.ensures.memory ∙ passed_day c.args.hall.now c.pass.new.self c.args.session c.args.passed c.pass.ensures.counted)
+    (unheard_day c.pass.new.self c.hear.new.self c.args.session c.args.line.now c.in_err-hear.ensures.memory ∙ passed_day c.args.hall.now c.pass.new.self
+    c.args.session c.args.passed c.pass.ensures.counted)
 
 pub returns-in_err-hear-clause-same : goal.returns-in_err-hear-clause-same
 returns-in_err-hear-clause-same g c = c.hear.ensures.unbooked.0 ∙ c.pass.ensures.counted.same_host.serving_is
@@ -64,11 +66,13 @@ pub returns-then-session-eq0-clause-forgotten : goal.returns-then-session-eq0-cl
 returns-then-session-eq0-clause-forgotten g c =
     on_err c.hear_manager.result (IsUnordered c.pass.new.self c.hear_manager.new.self)
     (IsForgotten c.args.hall.now c.hear_manager.new.self c.args.session c.args.passed c.args.line.now)
-    (unordered c.args.hall.now c.pass.new.self c.hear_manager.new.self c.args.session c.args.passed c.args.line.now c.if-session-eq0.true c.pass.ensures.counted)
+    (unordered c.args.hall.now c.pass.new.self c.hear_manager.new.self c.args.session c.args.passed c.args.line.now c.if-session-eq0.true
+    c.pass.ensures.counted)
     c.hear_manager.ensures.memory
 
 pub returns-then-session-eq0-clause-memory : goal.returns-then-session-eq0-clause-memory
 returns-then-session-eq0-clause-memory g c =
     on_err c.hear_manager.result (IsUnordered c.pass.new.self c.hear_manager.new.self) (c.hear_manager.new.self.today ≡ c.args.hall.now.today)
-    (λ is. unordered_day c.pass.new.self c.hear_manager.new.self is ∙ passed_day c.args.hall.now c.pass.new.self c.args.session c.args.passed c.pass.ensures.counted)
+    (λ is. unordered_day c.pass.new.self c.hear_manager.new.self is ∙ passed_day c.args.hall.now c.pass.new.self c.args.session c.args.passed
+    c.pass.ensures.counted)
     c.hear_manager.ensures.memory

@@ -5,7 +5,8 @@ use Rattle.desk_serving.proofs.group.hear_apart.Goals as goal
 
 pub returns-in-Err-answer_closing-clause-fails : goal.returns-in-Err-answer_closing-clause-fails
 returns-in-Err-answer_closing-clause-fails g c =
-    by_inventory g.D.Tape.seen g.D.Tape.may_leave g.D.Tape.unsynced g.D.Failures.failure_count c.args.hall.now.serving c.answer_closing.new.hall.serving c.in-Err-answer_closing.fault
+    by_inventory g.D.Tape.seen g.D.Tape.may_leave g.D.Tape.unsynced g.D.Failures.failure_count c.args.hall.now.serving c.answer_closing.new.hall.serving
+    c.in-Err-answer_closing.fault
     (fails_behind g.D.Tape.seen g.D.Tape.may_leave g.D.Tape.unsynced g.D.Failures.failure_count c.args.hall.now.serving c.hear_dated.new.hall.serving
     c.answer_closing.new.hall.serving c.in-Err-answer_closing.fault c.in-Ok.ensures.goes c.in-Err-answer_closing.ensures.fails)
 
@@ -23,15 +24,19 @@ answer_closing-requires-clause-dated g c = c.in-Ok.ensures.sealed.on_day
 
 pub returns-in-Ok-answer_closing-clause-apart : goal.returns-in-Ok-answer_closing-clause-apart
 returns-in-Ok-answer_closing-clause-apart g c =
-    apart c.args.closes c.args.hall.now c.hear_dated.new.hall c.answer_closing.new.hall c.args.one.now c.in-Ok.goes_on c.in-Ok.ensures.taken c.in-Ok-answer_closing.ensures.answered
+    apart c.args.closes c.args.hall.now c.hear_dated.new.hall c.answer_closing.new.hall c.args.one.now c.in-Ok.goes_on c.in-Ok.ensures.taken
+    c.in-Ok-answer_closing.ensures.answered
 
 pub returns-in-Ok-answer_closing-clause-goes : goal.returns-in-Ok-answer_closing-clause-goes
 returns-in-Ok-answer_closing-clause-goes g c =
-    goes_further g.D.Tape.seen g.D.Tape.may_leave g.D.Tape.unsynced g.D.Failures.failure_count c.args.hall.now.serving c.hear_dated.new.hall.serving c.answer_closing.new.hall.serving c.in-Ok.ensures.goes c.in-Ok-answer_closing.ensures.goes
+    goes_further g.D.Tape.seen g.D.Tape.may_leave g.D.Tape.unsynced g.D.Failures.failure_count c.args.hall.now.serving c.hear_dated.new.hall.serving
+    c.answer_closing.new.hall.serving c.in-Ok.ensures.goes c.in-Ok-answer_closing.ensures.goes
 
 pub returns-in-Ok-answer_closing-clause-sealed : goal.returns-in-Ok-answer_closing-clause-sealed
 returns-in-Ok-answer_closing-clause-sealed g c =
-    sealed_as g.K.Replaced.named g.K.Replaced.may_leave g.K.Replaced.kept_may_leave g.K.Failures.failure_count c.hear_dated.new.hall.today c.answer_closing.new.hall.today c.args.entry.now c.hear_dated.new.entry c.args.seals.now c.hear_dated.new.seals c.answer_closing.ensures.day c.in-Ok.ensures.sealed
+    sealed_as g.K.Replaced.named g.K.Replaced.may_leave g.K.Replaced.kept_may_leave g.K.Failures.failure_count c.hear_dated.new.hall.today
+    c.answer_closing.new.hall.today c.args.entry.now c.hear_dated.new.entry c.args.seals.now c.hear_dated.new.seals c.answer_closing.ensures.day
+    c.in-Ok.ensures.sealed
 
 pub returns-in-Ok-answer_closing-clause-stays : goal.returns-in-Ok-answer_closing-clause-stays
 returns-in-Ok-answer_closing-clause-stays g c = c.hear_dated.ensures.stays

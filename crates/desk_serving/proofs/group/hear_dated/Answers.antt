@@ -30,7 +30,8 @@ returns-in-Err-keep_day-clause-unsealed g c =
 
 pub returns-in-Err-clause-fails : goal.returns-in-Err-clause-fails
 returns-in-Err-clause-fails g c =
-    by_inventory g.D.Tape.seen g.D.Tape.may_leave g.D.Tape.unsynced g.D.Failures.failure_count c.args.hall.now.serving c.hear_one.new.hall.serving c.in-Err.fault c.in-Err.ensures.fails
+    by_inventory g.D.Tape.seen g.D.Tape.may_leave g.D.Tape.unsynced g.D.Failures.failure_count c.args.hall.now.serving c.hear_one.new.hall.serving
+    c.in-Err.fault c.in-Err.ensures.fails
 
 pub returns-in-Err-clause-stays : goal.returns-in-Err-clause-stays
 returns-in-Err-clause-stays g c =

@@ -27,11 +27,13 @@ hear_next-requires-clause-dated g c =
 
 pub returns-in-Ok-clause-taken : goal.returns-in-Ok-clause-taken
 returns-in-Ok-clause-taken g c =
-    taken_up c.args.hall.now c.catch_up.new.hall c.hear_next.new.hall c.args.one.now c.in-Ok.taking c.goes_on.result c.in_default.ensures.caught c.in-Ok.ensures.taken c.goes_on.ensures
+    taken_up c.args.hall.now c.catch_up.new.hall c.hear_next.new.hall c.args.one.now c.in-Ok.taking c.goes_on.result c.in_default.ensures.caught
+    c.in-Ok.ensures.taken c.goes_on.ensures
 
 pub returns-in-Ok-clause-goes : goal.returns-in-Ok-clause-goes
 returns-in-Ok-clause-goes g c =
-    goes_further g.D.Tape.seen g.D.Tape.may_leave g.D.Tape.unsynced g.D.Failures.failure_count c.args.hall.now.serving c.catch_up.new.hall.serving c.hear_next.new.hall.serving c.in_default.ensures.goes c.in-Ok.ensures.goes
+    goes_further g.D.Tape.seen g.D.Tape.may_leave g.D.Tape.unsynced g.D.Failures.failure_count c.args.hall.now.serving c.catch_up.new.hall.serving
+    c.hear_next.new.hall.serving c.in_default.ensures.goes c.in-Ok.ensures.goes
 
 pub returns-in-Err-clause-fails : goal.returns-in-Err-clause-fails
 returns-in-Err-clause-fails g c = c.in-Err.ensures.fails

@@ -47,23 +47,31 @@ answer_counted-requires-clause-counts g c = c.loop.invariant.2
 
 pub returns-in-Ok-false-clause-goes : goal.returns-in-Ok-false-clause-goes
 returns-in-Ok-false-clause-goes g c =
-    goes_further g.D.Tape.seen g.D.Tape.may_leave g.D.Tape.unsynced g.D.Failures.failure_count c.args.hall.now.serving c.loop.hall.serving c.answer_counted.new.hall.serving c.loop.invariant.0 c.in-Ok-false.ensures.goes
+    goes_further g.D.Tape.seen g.D.Tape.may_leave g.D.Tape.unsynced g.D.Failures.failure_count c.args.hall.now.serving c.loop.hall.serving
+    c.answer_counted.new.hall.serving c.loop.invariant.0 c.in-Ok-false.ensures.goes
 
 pub returns-in-Ok-false-clause-sealed : goal.returns-in-Ok-false-clause-sealed
 returns-in-Ok-false-clause-sealed g c =
-    sealed_further g.K.Replaced.named g.K.Replaced.may_leave g.K.Replaced.kept_may_leave g.K.Failures.failure_count c.loop.hall.today c.answer_counted.new.hall.today c.args.entry.now c.loop.entry c.answer_counted.new.entry c.args.seals.now c.loop.seals c.answer_counted.new.seals c.loop.invariant.1 c.in-Ok-false.ensures.sealed
+    sealed_further g.K.Replaced.named g.K.Replaced.may_leave g.K.Replaced.kept_may_leave g.K.Failures.failure_count c.loop.hall.today
+    c.answer_counted.new.hall.today c.args.entry.now c.loop.entry c.answer_counted.new.entry c.args.seals.now c.loop.seals c.answer_counted.new.seals
+    c.loop.invariant.1 c.in-Ok-false.ensures.sealed
 
 pub returns-in-Ok-false-clause-stays : goal.returns-in-Ok-false-clause-stays
 returns-in-Ok-false-clause-stays g c =
-    stays_behind g.K.Replaced.named g.K.Replaced.may_leave g.K.Replaced.kept_may_leave g.K.Failures.failure_count c.loop.hall.today c.args.entry.now c.loop.entry c.args.seals.now c.loop.seals c.answer_counted.new.seals c.loop.invariant.1 c.answer_counted.ensures.stays
+    stays_behind g.K.Replaced.named g.K.Replaced.may_leave g.K.Replaced.kept_may_leave g.K.Failures.failure_count c.loop.hall.today c.args.entry.now
+    c.loop.entry c.args.seals.now c.loop.seals c.answer_counted.new.seals c.loop.invariant.1 c.answer_counted.ensures.stays
 
 pub loop-init : goal.loop-init
 loop-init g c =
-    (goes_same g.D.Tape.seen g.D.Tape.may_leave g.D.Tape.unsynced g.D.Failures.failure_count c.args.hall.now.serving c.args.hall.now.serving c.requires.ready refl, sealed_same g.K.Replaced.named g.K.Replaced.may_leave g.K.Replaced.kept_may_leave g.K.Failures.failure_count c.args.hall.now.today c.args.hall.now.today c.args.entry.now c.args.seals.now refl c.requires.dated, c.begun-tally.ensures, no_groups c.args.closes c.args.hall.now)
+    (goes_same g.D.Tape.seen g.D.Tape.may_leave g.D.Tape.unsynced g.D.Failures.failure_count c.args.hall.now.serving c.args.hall.now.serving c.requires.ready
+    refl, sealed_same g.K.Replaced.named g.K.Replaced.may_leave g.K.Replaced.kept_may_leave g.K.Failures.failure_count c.args.hall.now.today
+    c.args.hall.now.today c.args.entry.now c.args.seals.now refl c.requires.dated, c.begun-tally.ensures, no_groups c.args.closes c.args.hall.now)
 
 pub returns-in_default-clause-fails : goal.returns-in_default-clause-fails
 returns-in_default-clause-fails g c =
-    by_inventory g.D.Tape.seen g.D.Tape.may_leave g.D.Tape.unsynced g.D.Failures.failure_count c.args.hall.now.serving c.args.hall.now.serving NoMemory (fails_same g.D.Tape.seen g.D.Tape.may_leave g.D.Tape.unsynced g.D.Failures.failure_count c.args.hall.now.serving c.args.hall.now.serving c.requires.ready refl)
+    by_inventory g.D.Tape.seen g.D.Tape.may_leave g.D.Tape.unsynced g.D.Failures.failure_count c.args.hall.now.serving c.args.hall.now.serving NoMemory
+    (fails_same g.D.Tape.seen g.D.Tape.may_leave g.D.Tape.unsynced g.D.Failures.failure_count c.args.hall.now.serving c.args.hall.now.serving c.requires.ready
+    refl)
 
 pub returns-in_default-clause-stays : goal.returns-in_default-clause-stays
 returns-in_default-clause-stays g c =

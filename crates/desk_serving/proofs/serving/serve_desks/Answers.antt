@@ -68,11 +68,14 @@ serve_ended-requires-clause-dated g c =
 
 pub seal_closed-requires : goal.seal_closed-requires
 seal_closed-requires g c =
-    record { few = few_ended c.args.host.serving.grid c.args.host.serving.cap c.in-Ok.served.0 (g.D.Tape.seen c.in-Ok.served.1) (g.D.Tape.may_leave c.in-Ok.served.1) (g.D.Tape.unsynced c.in-Ok.served.1) c.in-Ok.ensures.ended c.requires.cap }
+    record { few = few_ended c.args.host.serving.grid c.args.host.serving.cap c.in-Ok.served.0 (g.D.Tape.seen c.in-Ok.served.1) (g.D.Tape.may_leave
+    c.in-Ok.served.1) (g.D.Tape.unsynced c.in-Ok.served.1) c.in-Ok.ensures.ended c.requires.cap }
 
 pub returns-in-Err-clause-agrees : goal.returns-in-Err-clause-agrees
 returns-in-Err-clause-agrees g c =
-    still_named c.args.host.serving.kept (g.K.Replaced.may_leave c.serve_ended.new.seals) (names_on g.K.Replaced.named g.K.Replaced.may_leave g.K.Replaced.kept_may_leave g.K.Failures.failure_count c.args.begun c.args.host.serving.kept c.args.seals.now c.serve_ended.new.seals c.requires.stands c.requires.named c.serve_ended.ensures.stays) (g.D.Tape.may_leave c.in-Err.refused.1) c.in-Err.ensures.told
+    still_named c.args.host.serving.kept (g.K.Replaced.may_leave c.serve_ended.new.seals) (names_on g.K.Replaced.named g.K.Replaced.may_leave
+    g.K.Replaced.kept_may_leave g.K.Failures.failure_count c.args.begun c.args.host.serving.kept c.args.seals.now c.serve_ended.new.seals c.requires.stands
+    c.requires.named c.serve_ended.ensures.stays) (g.D.Tape.may_leave c.in-Err.refused.1) c.in-Err.ensures.told
 
 pub returns-in-Err-clause-only : goal.returns-in-Err-clause-only
 returns-in-Err-clause-only g c = c.serve_ended.ensures.stays.only
@@ -85,15 +88,18 @@ returns-in-Err-clause-journal g c = λ is. c.in-Err.ensures.journal (hosted_day 
 
 pub returns-in-Err-clause-unsealed : goal.returns-in-Err-clause-unsealed
 returns-in-Err-clause-unsealed g c =
-    λ _ _. names_on g.K.Replaced.named g.K.Replaced.may_leave g.K.Replaced.kept_may_leave g.K.Failures.failure_count c.args.begun c.args.host.serving.kept c.args.seals.now c.serve_ended.new.seals c.requires.stands c.requires.named c.serve_ended.ensures.stays
+    λ _ _. names_on g.K.Replaced.named g.K.Replaced.may_leave g.K.Replaced.kept_may_leave g.K.Failures.failure_count c.args.begun c.args.host.serving.kept
+    c.args.seals.now c.serve_ended.new.seals c.requires.stands c.requires.named c.serve_ended.ensures.stays
 
 pub returns-in-Err-clause-over : goal.returns-in-Err-clause-over
 returns-in-Err-clause-over g c =
-    no_closed_seal c.args.host.serving.kept c.args.basis.now c.args.begun.runs (g.D.Tape.seen c.in-Err.refused.1) (g.D.Tape.may_leave c.in-Err.refused.1) (g.D.Tape.unsynced c.in-Err.refused.1) (g.K.Replaced.may_leave c.serve_ended.new.seals) c.in-Err.refused.0 c.hosted_fault.result c.hosted_fault.ensures
+    no_closed_seal c.args.host.serving.kept c.args.basis.now c.args.begun.runs (g.D.Tape.seen c.in-Err.refused.1) (g.D.Tape.may_leave c.in-Err.refused.1)
+    (g.D.Tape.unsynced c.in-Err.refused.1) (g.K.Replaced.may_leave c.serve_ended.new.seals) c.in-Err.refused.0 c.hosted_fault.result c.hosted_fault.ensures
 
 pub returns-in-Err-clause-dating : goal.returns-in-Err-clause-dating
 returns-in-Err-clause-dating g c =
-    λ is. dating_failed g.K.Failures.failure_count c.args.seals.now c.serve_ended.new.seals c.in-Err.refused.0 c.in-Err.ensures.unsealed (sym c.hosted_fault.ensures ∙ is)
+    λ is. dating_failed g.K.Failures.failure_count c.args.seals.now c.serve_ended.new.seals c.in-Err.refused.0 c.in-Err.ensures.unsealed (sym
+    c.hosted_fault.ensures ∙ is)
 
 pub returns-in-Ok-seal_closed-clause-served : goal.returns-in-Ok-seal_closed-clause-served
 returns-in-Ok-seal_closed-clause-served g c = c.in-Ok.ensures.served
@@ -106,19 +112,23 @@ returns-in-Ok-seal_closed-clause-front g c = c.in-Ok.ensures.front
 
 pub returns-in-Ok-seal_closed-clause-sealed : goal.returns-in-Ok-seal_closed-clause-sealed
 returns-in-Ok-seal_closed-clause-sealed g c =
-    sealed_end g.K.Replaced.named g.K.Replaced.may_leave g.K.Replaced.kept_may_leave g.K.Failures.failure_count c.args.basis.now c.in-Ok.served.0.journal c.args.begun c.serve_ended.new.entry c.args.seals.now c.serve_ended.new.seals c.seal_closed.new.seals c.in-Ok.ensures.sealed c.in-Ok-seal_closed.ensures.ok
+    sealed_end g.K.Replaced.named g.K.Replaced.may_leave g.K.Replaced.kept_may_leave g.K.Failures.failure_count c.args.basis.now c.in-Ok.served.0.journal
+    c.args.begun c.serve_ended.new.entry c.args.seals.now c.serve_ended.new.seals c.seal_closed.new.seals c.in-Ok.ensures.sealed c.in-Ok-seal_closed.ensures.ok
 
 pub returns-in-Ok-seal_closed-clause-dated : goal.returns-in-Ok-seal_closed-clause-dated
 returns-in-Ok-seal_closed-clause-dated g c =
-    of_epoch g.K.Replaced.named g.K.Replaced.may_leave g.K.Replaced.kept_may_leave g.K.Failures.failure_count c.args.begun c.serve_ended.new.entry c.args.seals.now c.serve_ended.new.seals c.seal_closed.new.seals c.in-Ok.ensures.sealed c.seal_closed.ensures.dated
+    of_epoch g.K.Replaced.named g.K.Replaced.may_leave g.K.Replaced.kept_may_leave g.K.Failures.failure_count c.args.begun c.serve_ended.new.entry
+    c.args.seals.now c.serve_ended.new.seals c.seal_closed.new.seals c.in-Ok.ensures.sealed c.seal_closed.ensures.dated
 
 pub returns-in-Ok-seal_closed-clause-only : goal.returns-in-Ok-seal_closed-clause-only
 returns-in-Ok-seal_closed-clause-only g c =
-    no_more_behind g.K.Replaced.named g.K.Replaced.may_leave g.K.Replaced.kept_may_leave g.K.Failures.failure_count c.args.begun c.serve_ended.new.entry c.args.seals.now c.serve_ended.new.seals c.seal_closed.new.seals c.in-Ok.ensures.sealed c.seal_closed.ensures.only
+    no_more_behind g.K.Replaced.named g.K.Replaced.may_leave g.K.Replaced.kept_may_leave g.K.Failures.failure_count c.args.begun c.serve_ended.new.entry
+    c.args.seals.now c.serve_ended.new.seals c.seal_closed.new.seals c.in-Ok.ensures.sealed c.seal_closed.ensures.only
 
 pub returns-in-Err-seal_closed-clause-only : goal.returns-in-Err-seal_closed-clause-only
 returns-in-Err-seal_closed-clause-only g c =
-    no_more_behind g.K.Replaced.named g.K.Replaced.may_leave g.K.Replaced.kept_may_leave g.K.Failures.failure_count c.args.begun c.serve_ended.new.entry c.args.seals.now c.serve_ended.new.seals c.seal_closed.new.seals c.in-Ok.ensures.sealed c.seal_closed.ensures.only
+    no_more_behind g.K.Replaced.named g.K.Replaced.may_leave g.K.Replaced.kept_may_leave g.K.Failures.failure_count c.args.begun c.serve_ended.new.entry
+    c.args.seals.now c.serve_ended.new.seals c.seal_closed.new.seals c.in-Ok.ensures.sealed c.seal_closed.ensures.only
 
 pub returns-in-Err-seal_closed-clause-open : goal.returns-in-Err-seal_closed-clause-open
 returns-in-Err-seal_closed-clause-open g c = λ is. absurd (no_day c.in-Err-seal_closed.fault NoMemory is)
@@ -134,4 +144,6 @@ returns-in-Err-seal_closed-clause-dating g c = λ is. absurd (no_dating c.in-Err
 
 pub returns-in-Err-seal_closed-clause-device : goal.returns-in-Err-seal_closed-clause-device
 returns-in-Err-seal_closed-clause-device g c =
-    λ is. failed_behind g.K.Replaced.named g.K.Replaced.may_leave g.K.Replaced.kept_may_leave g.K.Failures.failure_count c.args.begun c.serve_ended.new.entry c.args.seals.now c.serve_ended.new.seals c.seal_closed.new.seals c.in-Ok.ensures.sealed (c.in-Err-seal_closed.ensures.device (same_seal c.in-Err-seal_closed.fault NoFile is))
+    λ is. failed_behind g.K.Replaced.named g.K.Replaced.may_leave g.K.Replaced.kept_may_leave g.K.Failures.failure_count c.args.begun c.serve_ended.new.entry
+    c.args.seals.now c.serve_ended.new.seals c.seal_closed.new.seals c.in-Ok.ensures.sealed (c.in-Err-seal_closed.ensures.device (same_seal
+    c.in-Err-seal_closed.fault NoFile is))
