@@ -4,6 +4,7 @@ use Rattle.seat_rules.specs.Inventory.{state_now}
 use Rattle.seat_desk.proofs.Texts.{put_more, put_none, text_whole}
 use Rattle.seat_questions.specs.Rooms.{IsFlightPart}
 use Rattle.seat_questions.proofs.Covers.{there, here}
+use Rattle.seat_questions.proofs.RoomTexts.{legs_alike}
 use Rattle.seat_questions.proofs.rooms.text_over.Goals as goal
 
 pub loop-index-init : goal.loop-index-init
@@ -21,3 +22,9 @@ loop-index-preserved c =
 
 pub returns : goal.returns
 returns c = text_whole (IsFlightPart c.args.flights.now c.args.asked.now (state_now c.args.core.now)) 0 c.loop-index.index c.len-index-end.result c.args.flights.now c.loop-index.text.items c.loop-index.invariant c.len-index-end.ensures.value c.loop-index-test.false
+
+pub put_flight-requires-clause-few : goal.put_flight-requires-clause-few
+put_flight-requires-clause-few c = c.flight.ensures.legs
+
+pub put_flight-requires-clause-legs : goal.put_flight-requires-clause-legs
+put_flight-requires-clause-legs c = legs_alike c.args.flights.now c.args.core.now.grid c.loop-index.index c.flight.result.now c.requires.grid c.flight.ensures.value
