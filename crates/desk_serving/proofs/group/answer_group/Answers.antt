@@ -35,7 +35,7 @@ loop-one-preserved g c = (
       c.answer_one.new.hall.today c.args.entry.now c.loop-one.entry c.answer_one.new.entry c.args.seals.now c.loop-one.seals
       c.answer_one.new.seals c.loop-one.invariant.1 c.in-Ok.ensures.sealed,
   taken_more c.args.closes c.args.hall.now c.loop-one.hall c.answer_one.new.hall c.args.said.now c.loop-one.one-index c.one-item.result c.loop-one.goes_on
-    c.in-Ok.more
+      c.in-Ok.more
       c.both-goes_on.result c.loop-one.invariant.2 (omega (arith, c.loop-one-test.true)) c.in-Ok.ensures.one c.one-item.is c.both-goes_on.ensures,
 )
 
@@ -76,7 +76,10 @@ pub returns-in-Err-answer_last-clause-unsealed : goal.returns-in-Err-answer_last
 returns-in-Err-answer_last-clause-unsealed g c = counts_none g.K.Failures.failure_count c.args.seals.now c.loop-one.seals c.in-Err-answer_last.fault
 
 pub loop-one-init : goal.loop-one-init
-loop-one-init g c =
-    (goes_same g.D.Tape.seen g.D.Tape.may_leave g.D.Tape.unsynced g.D.Failures.failure_count c.args.hall.now.serving c.args.hall.now.serving c.requires.ready
-    refl, sealed_same g.K.Replaced.named g.K.Replaced.may_leave g.K.Replaced.kept_may_leave g.K.Failures.failure_count c.args.hall.now.today
-    c.args.hall.now.today c.args.entry.now c.args.seals.now refl c.requires.dated, none_taken c.args.closes c.args.hall.now)
+loop-one-init g c = (
+  goes_same g.D.Tape.seen g.D.Tape.may_leave g.D.Tape.unsynced g.D.Failures.failure_count c.args.hall.now.serving c.args.hall.now.serving c.requires.ready
+      refl,
+  sealed_same g.K.Replaced.named g.K.Replaced.may_leave g.K.Replaced.kept_may_leave g.K.Failures.failure_count c.args.hall.now.today
+      c.args.hall.now.today c.args.entry.now c.args.seals.now refl c.requires.dated,
+  none_taken c.args.closes c.args.hall.now,
+)

@@ -62,10 +62,14 @@ returns-in-Ok-false-clause-stays g c =
     c.loop.entry c.args.seals.now c.loop.seals c.answer_counted.new.seals c.loop.invariant.1 c.answer_counted.ensures.stays
 
 pub loop-init : goal.loop-init
-loop-init g c =
-    (goes_same g.D.Tape.seen g.D.Tape.may_leave g.D.Tape.unsynced g.D.Failures.failure_count c.args.hall.now.serving c.args.hall.now.serving c.requires.ready
-    refl, sealed_same g.K.Replaced.named g.K.Replaced.may_leave g.K.Replaced.kept_may_leave g.K.Failures.failure_count c.args.hall.now.today
-    c.args.hall.now.today c.args.entry.now c.args.seals.now refl c.requires.dated, c.begun-tally.ensures, no_groups c.args.closes c.args.hall.now)
+loop-init g c = (
+  goes_same g.D.Tape.seen g.D.Tape.may_leave g.D.Tape.unsynced g.D.Failures.failure_count c.args.hall.now.serving c.args.hall.now.serving c.requires.ready
+      refl,
+  sealed_same g.K.Replaced.named g.K.Replaced.may_leave g.K.Replaced.kept_may_leave g.K.Failures.failure_count c.args.hall.now.today
+      c.args.hall.now.today c.args.entry.now c.args.seals.now refl c.requires.dated,
+  c.begun-tally.ensures,
+  no_groups c.args.closes c.args.hall.now,
+)
 
 pub returns-in_default-clause-fails : goal.returns-in_default-clause-fails
 returns-in_default-clause-fails g c =

@@ -68,8 +68,10 @@ serve_ended-requires-clause-dated g c =
 
 pub seal_closed-requires : goal.seal_closed-requires
 seal_closed-requires g c =
-    record { few = few_ended c.args.host.serving.grid c.args.host.serving.cap c.in-Ok.served.0 (g.D.Tape.seen c.in-Ok.served.1) (g.D.Tape.may_leave
-    c.in-Ok.served.1) (g.D.Tape.unsynced c.in-Ok.served.1) c.in-Ok.ensures.ended c.requires.cap }
+    record {
+      few = few_ended c.args.host.serving.grid c.args.host.serving.cap c.in-Ok.served.0 (g.D.Tape.seen c.in-Ok.served.1) (g.D.Tape.may_leave
+          c.in-Ok.served.1) (g.D.Tape.unsynced c.in-Ok.served.1) c.in-Ok.ensures.ended c.requires.cap;
+    }
 
 pub returns-in-Err-clause-agrees : goal.returns-in-Err-clause-agrees
 returns-in-Err-clause-agrees g c =
