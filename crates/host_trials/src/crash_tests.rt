@@ -2,7 +2,7 @@
 //! A call of the file is an append or a sync: two for the head, two for each group, and two for the END line.
 ghost use Rattle.std.specs.Prelude.{◌<◌};
 
-use crate::desk::{DEVICE, Desk, are_behind, asked_by};
+use crate::desk::{Desk, are_behind, asked_by};
 use crate::files::{ENDS, Why, alone, found, grid, part, spoilt, worked};
 use airline_base::Failures;
 use seat_disk::{Fuse, Tape, TornTape};
@@ -81,7 +81,8 @@ fn ask_all<R: Wait>(
     for group in asked.as_slice().chunks(size) {
         match answered(rt, alloc, desk, group, told, lines) {
             Ok(count) => told = told.saturating_add(count),
-            Err(why) => return if why == DEVICE { Ok(told) } else { Err(why) },
+            Err(Why::Device) => return Ok(told),
+            Err(why) => return Err(why),
         }
     }
     Ok(told)
@@ -98,35 +99,30 @@ fn answered<R: Wait>(
 ) -> Result<usize, Why> {
     let answered = desk.answer(rt, alloc, group)?;
     if answered.stop.is_some() || answered.lines.len() != group.len() {
-        return Err("a line for each");
+        return Err(Why::ALineForEach);
     }
     if !are_behind(answered.lines.as_slice(), told, lines) {
-        return Err("the worked lines");
+        return Err(Why::TheWorkedLines);
     }
     Ok(group.len())
 }
 
 fn fail<R: Wait>(rt: &R, alloc: Global, failing: Failing) -> Result<Outcome, Why> {
     let Some(grid) = grid(alloc) else {
-        return Err("a grid");
+        return Err(Why::Grid);
     };
     if failing.size == 0 {
-        return Err("groups of some requests");
+        return Err(Why::Requests);
     }
     let lines = worked(alloc)?;
     match Desk::open(rt, alloc, grid, 10, failing.calls) {
         Ok(desk) => fail_behind(rt, alloc, desk, lines.as_slice(), failing.size),
-        Err((why, file)) => {
-            if why == DEVICE {
-                Ok(Outcome {
-                    told: 0,
-                    shown: None,
-                    file,
-                })
-            } else {
-                Err(why)
-            }
-        }
+        Err((Why::Device, file)) => Ok(Outcome {
+            told: 0,
+            shown: None,
+            file,
+        }),
+        Err((why, _)) => Err(why),
     }
 }
 
@@ -152,7 +148,7 @@ fn fail_behind<R: Wait>(
             file,
         }),
         (Err(why), _) => Err(why),
-        _ => Err("a look"),
+        _ => Err(Why::Viewer),
     }
 }
 
@@ -165,6 +161,11 @@ fn shown(failing: Failing) -> Option<(bool, u16, usize)> {
     Some((failing.is_whole(), room, told))
 }
 
+fn holds(rt: &impl Abort, failing: Failing, is_right: bool, shows: &str) {
+    let Failing { calls, size } = failing;
+    assert!(rt; is_right, "{shows} in {size}, behind {calls}");
+}
+
 // Behind a call that failed it is closed, and viewers find what was told and no more.
 #[test]
 fn answers_nothing_behind_a_failure(rt: HostRuntime) -> Result<(), Fail> {
@@ -172,10 +173,8 @@ fn answers_nothing_behind_a_failure(rt: HostRuntime) -> Result<(), Fail> {
         for calls in 0..25u64 {
             let failing = Failing { calls, size };
             let outcome = fail(&rt, rt.alloc(), failing)?;
-            let is_told = outcome.told == failing.told();
-            assert!(rt; is_told, "told in {size}, behind {calls}");
-            let is_shown = outcome.shown == shown(failing);
-            assert!(rt; is_shown, "shown in {size}, behind {calls}");
+            holds(&rt, failing, outcome.told == failing.told(), "told");
+            holds(&rt, failing, outcome.shown == shown(failing), "shown");
         }
     }
     Ok(())
@@ -190,17 +189,25 @@ fn gives_the_failed_file_back(rt: HostRuntime) -> Result<(), Fail> {
             let is_whole = failing.is_whole();
             let outcome = fail(&rt, rt.alloc(), failing)?;
             let failures = if is_whole { 0 } else { 1 };
-            let is_counted = outcome.file.failures() == failures;
-            assert!(rt; is_counted, "counted in {size}, behind {calls}");
+            holds(&rt, failing, outcome.file.failures() == failures, "counted");
             let is_usable = is_whole || calls % 2 == 0;
-            let is_right = outcome.file.may_be_used() == is_usable;
-            assert!(rt; is_right, "usable in {size}, behind {calls}");
+            holds(
+                &rt,
+                failing,
+                outcome.file.may_be_used() == is_usable,
+                "usable",
+            );
             let (_, written) = failing.written();
             let is_there = outcome.file.into_inner().bytes() == part(0, written);
-            assert!(rt; is_there, "written in {size}, behind {calls}");
+            holds(&rt, failing, is_there, "written");
         }
     }
     Ok(())
+}
+
+fn finds(rt: &impl Abort, failing: Failing, len: usize, is_right: bool, shows: &str) {
+    let Failing { calls, size } = failing;
+    assert!(rt; is_right, "{len} bytes {shows} in {size}, behind {calls}");
 }
 
 /// The file that a crash leaves, where these bytes stand in place of what was on its way, and how many lines were told.
@@ -225,11 +232,10 @@ fn finds_what_was_told(rt: HostRuntime) -> Result<(), Fail> {
             let (synced, written) = failing.written();
             for len in synced..written.saturating_add(1) {
                 let (file, told) = crash(&rt, rt.alloc(), failing, part(synced, len))?;
-                let is_left = file.bytes() == part(0, len);
-                assert!(rt; is_left, "{len} bytes left in {size}, behind {calls}");
+                finds(&rt, failing, len, file.bytes() == part(0, len), "left");
                 let found = found(rt.alloc(), 10, file.bytes())?;
                 let is_found = found == alone(len) && told <= found.0;
-                assert!(rt; is_found, "{len} bytes found in {size}, behind {calls}");
+                finds(&rt, failing, len, is_found, "found");
             }
         }
     }
@@ -252,8 +258,7 @@ fn finds_what_was_told_ahead_of_rubbish(rt: HostRuntime) -> Result<(), Fail> {
             rubbish.resize(written.saturating_sub(synced), b'\n')?;
             let (file, told) = crash(&rt, rt.alloc(), failing, rubbish.as_slice())?;
             let found = found(rt.alloc(), 10, file.bytes())?;
-            let is_found = found == want && told <= found.0;
-            assert!(rt; is_found, "in {size}, behind {calls}");
+            holds(&rt, failing, found == want && told <= found.0, "found");
         }
     }
     Ok(())

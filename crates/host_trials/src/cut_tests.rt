@@ -1,7 +1,7 @@
 //! How much may be cut.
+use crate::steps::holds_at;
 use seat_journal::{JournalFault, JournalKind};
 use seat_recovery::{Damage, Rest, may_cut};
-use std::process::Abort;
 use std::test::Fail;
 
 #[test]
@@ -25,10 +25,8 @@ fn cuts_no_more_than_a_group(rt: HostRuntime) -> Result<(), Fail> {
     for (rest, said, byte, count, want) in rows {
         let mut behind = Vec::new(rt.alloc());
         behind.resize(count, byte)?;
-        assert!(rt;
-            may_cut(rest, said, behind.as_slice()) == want,
-            "{count} bytes"
-        );
+        let is_right = may_cut(rest, said, behind.as_slice()) == want;
+        holds_at(&rt, is_right, "bytes", count);
     }
     Ok(())
 }

@@ -3,13 +3,14 @@ ghost use Rattle.std.specs.Prelude.{◌≡◌, ◌↔◌, IsTrue};
 ghost use Rattle.seat_rules.specs.Journal.{FitsCommand};
 
 use crate::inventories::{LEG, grid_of};
-use crate::steps::{Row, STEP, Step, lines_of, same, same_line, step_of};
+use crate::looks::{manager_finds, session_finds};
+use crate::steps::{Row, STEP, Step, holds, holds_at, lines_of, same, same_line, step_of};
 use airline_base::Class;
 use seat_host::{
     BookFault, GatherFault, Host, HostFault, Hosting, Manager, Parts, Receipt, Refusal, Session,
     Settled, gather,
 };
-use seat_journal::{Change, Command, Entry, SaleChange, Work};
+use seat_journal::{Command, Control, Entry, Work};
 use std::alloc::Global;
 use std::marker::Brand;
 use std::process::Abort;
@@ -26,7 +27,7 @@ pub struct Deeds {
     pub released: u64,
 }
 
-const ROWS: [Deeds; 6] = [
+const ROWS: &[Deeds] = &[
     Deeds {
         row: Row {
             shows: "a session sees what it booked, and the other at its first look",
@@ -252,156 +253,8 @@ fn book_again<K: Hosting, R: Wait + Abort>(
 
 /// What a session finds in a class, its receipts and the lines that it has seen.
 fn stand<K: Hosting>(session: &mut Session<K>, class: Class) -> (Option<u16>, usize, u32) {
-    let room = session.look(|sight| sight.room(LEG, class));
+    let room = session_finds(session, LEG, class);
     (room, session.receipts().len(), session.front_len())
-}
-
-/// Books a command. Where a growth is refused nothing may have changed, and it is booked again.
-fn book<K: Hosting, R: Wait + Abort>(
-    rt: &R,
-    alloc: Global,
-    host: &Host<K>,
-    session: &mut Session<K>,
-    command: &Command,
-    line: &Entry,
-) -> Result<(), BookFault> {
-    let before = stand(session, command.class);
-    let Err(refusal) = book_once(rt, alloc, host, session, command) else {
-        return Ok(());
-    };
-    assert!(rt;
-        refusal.held.len() == session.front_len(),
-        "the lock held what is seen"
-    );
-    if refusal.fault == BookFault::JournalFull {
-        return Err(refusal.fault);
-    }
-    let after = stand(session, command.class);
-    assert!(rt; before == after, "a refusal changes nothing");
-    assert!(rt;
-        book_again(rt, alloc, host, session, command, line),
-        "the second call is answered"
-    );
-    Ok(())
-}
-
-/// Has the host answer a change.
-fn set_once<K: Hosting, R: Wait + Abort>(
-    rt: &R,
-    alloc: Global,
-    host: &Host<K>,
-    manager: &mut Manager<K>,
-    change: &Change,
-) -> Result<(), Refusal> {
-    assert!(rt; host.fits_change(change), "the change fits");
-    host.set_limit(rt, alloc, manager, *change)
-}
-
-/// Has the manager make it, and looks at its receipt. Whether that is the line.
-fn set_again<K: Hosting, R: Wait + Abort>(
-    rt: &R,
-    alloc: Global,
-    host: &Host<K>,
-    manager: &mut Manager<K>,
-    change: &Change,
-    line: &Entry,
-) -> bool {
-    assert!(rt; host.fits_change(change), "the change fits");
-    match manager.set_limit(host, rt, alloc, *change) {
-        Ok(()) => same_line(manager.last().entry(), line),
-        Err(_) => false,
-    }
-}
-
-/// Has the host close or open a class.
-fn sell_once<K: Hosting, R: Wait + Abort>(
-    rt: &R,
-    alloc: Global,
-    host: &Host<K>,
-    manager: &mut Manager<K>,
-    change: &SaleChange,
-) -> Result<(), Refusal> {
-    assert!(rt; host.fits_sale(change), "the leg is there");
-    host.set_sale(rt, alloc, manager, *change)
-}
-
-/// Has the manager close or open it, and looks at its receipt. Whether that is the line.
-fn sell_again<K: Hosting, R: Wait + Abort>(
-    rt: &R,
-    alloc: Global,
-    host: &Host<K>,
-    manager: &mut Manager<K>,
-    change: &SaleChange,
-    line: &Entry,
-) -> bool {
-    assert!(rt; host.fits_sale(change), "the leg is there");
-    match manager.set_sale(host, rt, alloc, *change) {
-        Ok(()) => same_line(manager.last().entry(), line),
-        Err(_) => false,
-    }
-}
-
-/// Closes or opens a class. Where a growth is refused nothing may have changed, and it is done again.
-fn sell<K: Hosting, R: Wait + Abort>(
-    rt: &R,
-    alloc: Global,
-    host: &Host<K>,
-    manager: &mut Manager<K>,
-    change: &SaleChange,
-    line: &Entry,
-) -> Result<(), BookFault> {
-    let before = (manager.receipts().len(), manager.front_len());
-    let Err(refusal) = sell_once(rt, alloc, host, manager, change) else {
-        return Ok(());
-    };
-    if refusal.fault == BookFault::JournalFull {
-        return Err(refusal.fault);
-    }
-    let after = (manager.receipts().len(), manager.front_len());
-    assert!(rt; before == after, "a refusal changes nothing");
-    assert!(rt;
-        sell_again(rt, alloc, host, manager, change, line),
-        "the second call is answered"
-    );
-    Ok(())
-}
-
-/// What the manager finds in a class, his receipts and the lines that he has seen.
-fn stand_of_manager<K: Hosting>(
-    manager: &mut Manager<K>,
-    class: Class,
-) -> (Option<u16>, usize, u32) {
-    let room = manager.look(|sight| sight.room(LEG, class));
-    (room, manager.receipts().len(), manager.front_len())
-}
-
-/// Makes a change. Where a growth is refused nothing may have changed, and it is made again.
-fn set<K: Hosting, R: Wait + Abort>(
-    rt: &R,
-    alloc: Global,
-    host: &Host<K>,
-    manager: &mut Manager<K>,
-    change: &Change,
-    line: &Entry,
-) -> Result<(), BookFault> {
-    let before = stand_of_manager(manager, change.class);
-    let Err(refusal) = set_once(rt, alloc, host, manager, change) else {
-        return Ok(());
-    };
-    assert!(rt;
-        refusal.held.len() == manager.front_len(),
-        "the lock held what is seen"
-    );
-    if refusal.fault == BookFault::JournalFull {
-        return Err(refusal.fault);
-    }
-    let after = stand_of_manager(manager, change.class);
-    assert!(rt; before == after, "a refusal changes nothing");
-    assert!(rt;
-        set_again(rt, alloc, host, manager, change, line),
-        "the second call is answered"
-    );
-    Ok(())
 }
 
 /// Whether the last of these receipts is this line.
@@ -412,50 +265,168 @@ fn has_last(receipts: &[Receipt], line: &Entry) -> bool {
     }
 }
 
-/// Asks for a line, and looks at its receipt; true where the journal is full.
+/// Books a command: whether the last receipt is the line. Where a growth is refused nothing may have changed, and it is
+/// booked again.
+fn book<K: Hosting, R: Wait + Abort>(
+    rt: &R,
+    alloc: Global,
+    host: &Host<K>,
+    session: &mut Session<K>,
+    command: &Command,
+    line: &Entry,
+) -> Result<bool, BookFault> {
+    let before = stand(session, command.class);
+    let Err(refusal) = book_once(rt, alloc, host, session, command) else {
+        return Ok(has_last(session.receipts(), line));
+    };
+    assert!(rt;
+        refusal.held.len() == session.front_len(),
+        "the lock held what is seen"
+    );
+    if refusal.fault == BookFault::JournalFull {
+        return Err(refusal.fault);
+    }
+    let after = stand(session, command.class);
+    assert!(rt; before == after, "a refusal changes nothing");
+    Ok(book_again(rt, alloc, host, session, command, line))
+}
+
+/// Has the host answer a change of a limit, or close or open a class.
+fn set_once<K: Hosting, R: Wait + Abort>(
+    rt: &R,
+    alloc: Global,
+    host: &Host<K>,
+    manager: &mut Manager<K>,
+    asked: &Control,
+) -> Result<(), Refusal> {
+    match asked {
+        Control::ToLimit(change) => {
+            assert!(rt; host.fits_change(change), "the change fits");
+            host.set_limit(rt, alloc, manager, *change)
+        }
+        Control::ToSale(change) => {
+            assert!(rt; host.fits_sale(change), "the leg is there");
+            host.set_sale(rt, alloc, manager, *change)
+        }
+    }
+}
+
+/// Has the manager do it, and looks at his receipt. Whether that is the line.
+fn set_again<K: Hosting, R: Wait + Abort>(
+    rt: &R,
+    alloc: Global,
+    host: &Host<K>,
+    manager: &mut Manager<K>,
+    asked: &Control,
+    line: &Entry,
+) -> bool {
+    match asked {
+        Control::ToLimit(change) => {
+            assert!(rt; host.fits_change(change), "the change fits");
+            match manager.set_limit(host, rt, alloc, *change) {
+                Ok(()) => same_line(manager.last().entry(), line),
+                Err(_) => false,
+            }
+        }
+        Control::ToSale(change) => {
+            assert!(rt; host.fits_sale(change), "the leg is there");
+            match manager.set_sale(host, rt, alloc, *change) {
+                Ok(()) => same_line(manager.last().entry(), line),
+                Err(_) => false,
+            }
+        }
+    }
+}
+
+/// The class whose limit is changed, or that is closed or opened.
+fn class_of(asked: &Control) -> Option<Class> {
+    match asked {
+        Control::ToLimit(change) => Some(change.class),
+        Control::ToSale(change) => change.class,
+    }
+}
+
+/// What the manager finds in a class, his receipts and the lines that he has seen.
+fn stand_of_manager<K: Hosting>(
+    manager: &mut Manager<K>,
+    class: Option<Class>,
+) -> (Option<u16>, usize, u32) {
+    let room = match class {
+        Some(class) => manager_finds(manager, LEG, class),
+        None => None,
+    };
+    (room, manager.receipts().len(), manager.front_len())
+}
+
+/// Has the manager set something: whether his last receipt is the line. Where a growth is refused nothing may have changed,
+/// and it is set again.
+fn set<K: Hosting, R: Wait + Abort>(
+    rt: &R,
+    alloc: Global,
+    host: &Host<K>,
+    manager: &mut Manager<K>,
+    asked: &Control,
+    line: &Entry,
+) -> Result<bool, BookFault> {
+    let before = stand_of_manager(manager, class_of(asked));
+    let Err(refusal) = set_once(rt, alloc, host, manager, asked) else {
+        return Ok(has_last(manager.receipts(), line));
+    };
+    assert!(rt;
+        refusal.held.len() == manager.front_len(),
+        "the lock held what is seen"
+    );
+    if refusal.fault == BookFault::JournalFull {
+        return Err(refusal.fault);
+    }
+    let after = stand_of_manager(manager, class_of(asked));
+    assert!(rt; before == after, "a refusal changes nothing");
+    Ok(set_again(rt, alloc, host, manager, asked, line))
+}
+
+/// Asks for the next line, and looks at its receipt; true where the journal is full.
 fn ask_line<K: Hosting, R: Wait + Abort>(
     rt: &R,
     alloc: Global,
     host: &Host<K>,
     manager: &mut Manager<K>,
     sessions: &mut Vec<Session<K>>,
-    line: &Entry,
+    lines: &[Entry],
 ) -> Option<bool> {
-    let (answer, is_last) = match &line.work {
+    let line = lines.get(asked(manager, sessions))?;
+    let answer = match &line.work {
         Work::Seats(command) => {
             let session = session_of(sessions, line.session)?;
-            let answer = book(rt, alloc, host, session, command, line);
-            (answer, has_last(session.receipts(), line))
+            book(rt, alloc, host, session, command, line)
         }
-        Work::Limit(change) => {
-            let answer = set(rt, alloc, host, manager, change, line);
-            (answer, has_last(manager.receipts(), line))
-        }
-        Work::Sale(change) => {
-            let answer = sell(rt, alloc, host, manager, change, line);
-            (answer, has_last(manager.receipts(), line))
-        }
+        Work::Limit(change) => { set(rt, alloc, host, manager, &Control::ToLimit(*change), line) }
+        Work::Sale(change) => { set(rt, alloc, host, manager, &Control::ToSale(*change), line) }
     };
     match answer {
-        Ok(()) => {
-            assert!(rt; is_last, "the receipt of line {}", line.number);
+        Ok(is_last) => {
+            holds_at(rt, is_last, "the receipt of line", line.number as usize);
             Some(false)
         }
         Err(fault) => Some(fault == BookFault::JournalFull),
     }
 }
 
-/// How many lines the manager or a session has seen.
-fn seen_by<K: Hosting>(
+/// Looks how many lines the manager or a session has seen.
+fn saw<K: Hosting>(
+    rt: &impl Abort,
     manager: &Manager<K>,
     sessions: &mut Vec<Session<K>>,
     who: u8,
-) -> Option<u32> {
-    if who == 0 {
-        Some(manager.front_len())
+    seen: u32,
+    shows: &str,
+) -> Option<()> {
+    let found = if who == 0 {
+        manager.front_len()
     } else {
-        Some(session_of(sessions, who)?.front_len())
-    }
+        session_of(sessions, who)?.front_len()
+    };
+    same(rt, u64::from(found), u64::from(seen), shows);
+    Some(())
 }
 
 /// What the manager or a session finds.
@@ -466,9 +437,9 @@ fn look_by<K: Hosting>(
     class: Class,
 ) -> Option<u16> {
     if who == 0 {
-        manager.look(|sight| sight.room(LEG, class))
+        manager_finds(manager, LEG, class)
     } else {
-        session_of(sessions, who)?.look(|sight| sight.room(LEG, class))
+        session_finds(session_of(sessions, who)?, LEG, class)
     }
 }
 
@@ -495,29 +466,21 @@ fn act<K: Hosting, R: Wait + Abort>(
     step: Step,
     shows: &str,
 ) -> Option<()> {
-    let next = lines.get(asked(manager, sessions));
     match step {
-        Step::Line => {
-            let is_full = ask_line(rt, alloc, host, manager, sessions, next?)?;
-            assert!(rt; !is_full, "{shows}: the journal is full");
+        Step::Line | Step::Full => {
+            let is_full = ask_line(rt, alloc, host, manager, sessions, lines)?;
+            let is_right = is_full == matches!(step, Step::Full);
+            holds(rt, is_right, shows, "whether the journal is full");
+            Some(())
         }
-        Step::Full => {
-            let is_full = ask_line(rt, alloc, host, manager, sessions, next?)?;
-            assert!(rt; is_full, "{shows}: the journal is not full");
-        }
-        Step::Saw(who, seen) => {
-            let found = seen_by(manager, sessions, who)?;
-            same(rt, u64::from(found), u64::from(seen), shows);
-        }
+        Step::Saw(who, seen) => saw(rt, manager, sessions, who, seen, shows),
         Step::Look(who, class, room, seen) => {
             let found = look_by(manager, sessions, who, class)?;
             same(rt, u64::from(found), u64::from(room), shows);
-            let found = seen_by(manager, sessions, who)?;
-            same(rt, u64::from(found), u64::from(seen), shows);
+            saw(rt, manager, sessions, who, seen, shows)
         }
-        Step::Publish | Step::Learn(_) => return None,
+        Step::Publish | Step::Learn(_) => None,
     }
-    Some(())
 }
 
 pub fn act_all<K: Hosting, R: Wait + Abort>(
@@ -527,11 +490,12 @@ pub fn act_all<K: Hosting, R: Wait + Abort>(
     manager: &mut Manager<K>,
     sessions: &mut Vec<Session<K>>,
     lines: &[Entry],
-    row: &Row,
+    steps: &[u8],
+    shows: &str,
 ) -> Option<()> {
-    for word in row.steps.chunks(STEP) {
+    for word in steps.chunks(STEP) {
         let step = step_of(word)?;
-        act(rt, alloc, host, manager, sessions, lines, step, row.shows)?;
+        act(rt, alloc, host, manager, sessions, lines, step, shows)?;
     }
     Some(())
 }
@@ -617,12 +581,8 @@ fn compare<R: Abort>(
         shows,
     );
     for (line, want) in settled.journal.as_slice().iter().zip(lines.iter()) {
-        assert!(rt; same_line(line, want), "{shows}: line {}", want.number);
-        assert!(rt;
-            is_receipt(settled, want)?,
-            "{shows}: receipt {}",
-            want.number
-        );
+        let is_there = same_line(line, want) && is_receipt(settled, want)?;
+        holds_at(rt, is_there, shows, want.number as usize);
     }
     Some(())
 }
@@ -643,7 +603,7 @@ pub fn play<K: Hosting, R: Wait + Abort>(
         return false;
     };
     let ended = act_and_gather(rt, alloc, host, manager, seats, lines, row, sessions);
-    assert!(rt; ended.is_some(), "{}: to the end", row.row.shows);
+    holds(rt, ended.is_some(), row.row.shows, "to the end");
     true
 }
 
@@ -658,7 +618,17 @@ fn act_and_gather<K: Hosting, R: Wait + Abort>(
     sessions: u8,
 ) -> Option<()> {
     let (host, mut manager, mut seats) = gather_without_last(rt, alloc, host, manager, seats)?;
-    let acted = act_all(rt, alloc, &host, &mut manager, &mut seats, lines, &row.row);
+    let (steps, shows) = (row.row.steps, row.row.shows);
+    let acted = act_all(
+        rt,
+        alloc,
+        &host,
+        &mut manager,
+        &mut seats,
+        lines,
+        steps,
+        shows,
+    );
     let settled = gather_all(rt, alloc, host, manager, seats)?;
     acted?;
     compare(rt, &settled, lines, row, sessions)
@@ -699,14 +669,14 @@ fn is_played<R: Wait + Abort>(rt: &R, alloc: Global, row: &Deeds) -> bool {
 
 #[test]
 fn sessions_do_their_deeds(rt: HostRuntime) -> Result<(), Fail> {
-    for row in &ROWS {
+    for row in ROWS {
         let is_open = is_played(&rt, rt.alloc(), row) || is_played(&rt, rt.alloc(), row);
-        assert!(&rt; is_open, "{}: opened", row.row.shows);
+        holds(&rt, is_open, row.row.shows, "opened");
     }
     Ok(())
 }
 
-const NO_DEEDS: Deeds = Deeds {
+const NO_DEEDS: &Deeds = &Deeds {
     row: Row {
         shows: "no deeds",
         lines: b"SEATJOURNAL 1
@@ -723,14 +693,14 @@ END 0
 
 #[test]
 fn hosts_are_for_one_to_eight_sessions(rt: HostRuntime) -> Result<(), Fail> {
-    for sessions in [1, 8] {
-        let is_open = matches!(follow(&rt, rt.alloc(), &NO_DEEDS, sessions), Ok(true));
-        assert!(&rt; is_open, "{sessions} sessions");
+    for sessions in [1u8, 8] {
+        let is_open = matches!(follow(&rt, rt.alloc(), NO_DEEDS, sessions), Ok(true));
+        holds_at(&rt, is_open, "sessions", usize::from(sessions));
     }
-    for sessions in [0, 9, 255] {
-        let answer = follow(&rt, rt.alloc(), &NO_DEEDS, sessions);
+    for sessions in [0u8, 9, 255] {
+        let answer = follow(&rt, rt.alloc(), NO_DEEDS, sessions);
         let is_refused = matches!(answer, Err(HostFault::Sessions));
-        assert!(&rt; is_refused, "{sessions} sessions");
+        holds_at(&rt, is_refused, "sessions", usize::from(sessions));
     }
     Ok(())
 }

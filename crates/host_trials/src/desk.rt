@@ -3,8 +3,9 @@ ghost use Rattle.std.specs.Prelude.{◌+◌, ◌≤◌, IsTrue, OnOk, length};
 ghost use Rattle.seat_serving.specs.Answering.{AreRight};
 
 use crate::files::Why;
+use crate::looks::viewer_finds;
 use crate::steps::same_line;
-use airline_base::{Class, Place};
+use airline_base::Class;
 use seat_disk::{Fuse, Tape, TornTape};
 use seat_display::Viewer;
 use seat_journal::Entry;
@@ -13,22 +14,10 @@ use seat_serving::{Answered, Asked, Ended, ServeFault, Serving};
 use std::alloc::Global;
 use std::sync::Wait;
 
-/// The file failed.
-pub const DEVICE: Why = "the file failed";
-
-/// A growth was refused.
-pub const MEMORY: Why = "memory";
-
-const LEG: Place = Place {
-    flight: 0,
-    from: 0,
-    to: 0,
-};
-
 fn why(fault: ServeFault) -> Why {
     match fault {
-        ServeFault::Device => DEVICE,
-        ServeFault::Memory => MEMORY,
+        ServeFault::Device => Why::Device,
+        ServeFault::Memory => Why::Memory,
     }
 }
 
@@ -79,7 +68,7 @@ impl Desk {
     /// The room of class Y that a viewer finds, and how many lines it has then seen.
     pub fn look(&mut self) -> Option<(u16, u32)> {
         let class = Class::new(b'Y')?;
-        let room = self.viewer.look(|sight| sight.room(LEG, class))?;
+        let room = viewer_finds(&mut self.viewer, class)?;
         Some((room, self.viewer.seen()))
     }
 
@@ -87,7 +76,7 @@ impl Desk {
     pub fn end<R: Wait>(self, rt: &R, alloc: Global) -> Result<(Ended, Fuse<TornTape>), Left> {
         let Desk { serving, viewer: _ } = self;
         if !serving.is_open() {
-            return Err(("it is closed", serving.close(rt)));
+            return Err((Why::Journal, serving.close(rt)));
         }
         match serving.end(rt, alloc) {
             Ok(ended) => Ok(ended),
@@ -111,7 +100,7 @@ pub fn seated<R: Wait>(
     let mut viewers = viewers;
     match viewers.pop() {
         Some(viewer) => Ok(Desk { serving, viewer }),
-        None => Err(("a viewer", serving.close(rt))),
+        None => Err((Why::Viewer, serving.close(rt))),
     }
 }
 
@@ -123,13 +112,13 @@ pub fn can_ask<D: Tape>(serving: &Serving<D>, asked: &[Asked]) -> Result<(), Why
     ensures room { OnOk result (length serving.now.journal + length asked.now ≤ serving.now.cap) }
 {
     if !serving.is_open() {
-        return Err("it is closed");
+        return Err(Why::Journal);
     }
     if asked.len() > 4096 || asked.len() > serving.room() as usize {
-        return Err("fewer requests");
+        return Err(Why::Requests);
     }
     if !are_right(serving, asked) {
-        return Err("right requests");
+        return Err(Why::Requests);
     }
     Ok(())
 }
@@ -142,14 +131,15 @@ fn are_right<D: Tape>(serving: &Serving<D>, asked: &[Asked]) -> bool
 
 /// Whether these are the lines of a journal behind its first `from`.
 pub fn are_behind(lines: &[Entry], from: usize, journal: &[Entry]) -> bool {
-    let Some((_, behind)) = journal.split_at_checked(from) else {
+    let Some(behind) = journal.get(from..journal.len()) else {
         return false;
     };
+    for (line, want) in lines.iter().zip(behind.iter()) {
+        if !same_line(line, want) {
+            return false;
+        }
+    }
     lines.len() <= behind.len()
-        && lines
-            .iter()
-            .zip(behind.iter())
-            .all(|(a, b)| same_line(a, b))
 }
 
 /// What these lines ask for.
@@ -161,7 +151,7 @@ pub fn asked_by(alloc: Global, lines: &[Entry]) -> Result<Vec<Asked>, Why> {
             work: line.work,
         };
         if asked.push(request).is_err() {
-            return Err(MEMORY);
+            return Err(Why::Memory);
         }
     }
     Ok(asked)

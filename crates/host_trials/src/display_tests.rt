@@ -2,7 +2,8 @@
 ghost use Rattle.std.specs.Prelude.{◌<◌};
 
 use crate::feed::Feed;
-use crate::inventories::{LEG, core_of, sold_and_cancelled};
+use crate::inventories::{core_of, sold_and_cancelled};
+use crate::looks::viewer_finds;
 use crate::scene::{Scene, same_look};
 use crate::steps::{Row, STEP, same, step_of};
 use airline_base::Class;
@@ -12,7 +13,7 @@ use std::process::Abort;
 use std::sync::Wait;
 use std::test::Fail;
 
-const ROWS: [Row; 5] = [
+const ROWS: &[Row] = &[
     Row {
         shows: "a line is found once it is published",
         lines: b"SEATJOURNAL 1
@@ -122,7 +123,7 @@ fn follow<R: Wait + Abort>(rt: &R, alloc: Global, row: &Row) -> Option<()> {
 
 #[test]
 fn shows_what_was_published(rt: HostRuntime) -> Result<(), Fail> {
-    for row in &ROWS {
+    for row in ROWS {
         follow(&rt, rt.alloc(), row).ok_or(row.shows)?;
     }
     Ok(())
@@ -132,7 +133,7 @@ fn shows_what_was_published(rt: HostRuntime) -> Result<(), Fail> {
 fn finders(viewers: &mut Vec<Viewer>, class: Class, room: u16, seen: u32) -> u64 {
     let mut found = 0u64;
     for viewer in viewers.as_mut_slice() {
-        if viewer.look(|sight| sight.room(LEG, class)) == Some(room) && viewer.seen() == seen {
+        if viewer_finds(viewer, class) == Some(room) && viewer.seen() == seen {
             found = found.saturating_add(1);
         }
     }

@@ -1,6 +1,7 @@
 //! A real file under its lock: lines that are kept in it, what stands behind them, and the file beside it.
 use crate::desk::{asked_by, can_ask};
-use crate::files::{Why, grid, name_of, part, worked};
+use crate::files::{How, Why, grid, name_of, part, worked};
+use crate::steps::holds;
 use seat_disk::Tape;
 use seat_recovery::MOST_OPEN_BYTES;
 use seat_serving::{GoOnFault, Serving};
@@ -34,16 +35,16 @@ fn visit<W: Wait>(
     rt: &HostRuntime,
     name: &str,
     said: bool,
-) -> Result<(usize, &'static str, Option<u32>), Why> {
+) -> Result<(usize, How, Option<u32>), Why> {
     let Some(grid) = grid(rt.alloc()) else {
-        return Err("a grid");
+        return Err(Why::Grid);
     };
     let Ok(tape) = open(rt, name) else {
-        return Err("a file");
+        return Err(Why::File);
     };
     let mut tape = tape;
     let Ok(bytes) = tape.read_all(rt.alloc(), MOST_OPEN_BYTES) else {
-        return Err("its bytes");
+        return Err(Why::File);
     };
     let mut beside = BesideFile::of(rt, name);
     let gone = Serving::go_on(
@@ -64,8 +65,8 @@ fn visit<W: Wait>(
             ask_rest(wait, rt.alloc(), serving, found)?;
             Ok((found, how, beside.number()))
         }
-        Err((GoOnFault::Barred(_), _)) => Ok((0, "barred", beside.number())),
-        Err(_) => Err("a journal"),
+        Err((GoOnFault::Barred(_), _)) => Ok((0, How::Barred, beside.number())),
+        Err(_) => Err(Why::Journal),
     }
 }
 
@@ -89,19 +90,22 @@ fn ask<W: Wait>(
     found: usize,
 ) -> Result<(), Why> {
     let lines = worked(alloc)?;
-    let Some((_, behind)) = lines.as_slice().split_at_checked(found) else {
-        return Err("fewer lines");
+    let Some(behind) = lines.as_slice().get(found..lines.len()) else {
+        return Err(Why::SoManyLines);
     };
     let asked = asked_by(alloc, behind)?;
     can_ask(serving, asked.as_slice())?;
     match serving.answer(rt, alloc, asked.as_slice()) {
         Ok(_) => Ok(()),
-        Err(_) => Err("an answer"),
+        Err(_) => Err(Why::ALineForEach),
     }
 }
 
-/// Puts these bytes behind what a file has, as a crash may.
+/// Puts these bytes, where there are some, behind what a file has, as a crash may.
 fn put(rt: &HostRuntime, name: &str, bytes: &[u8]) -> io::Result<()> {
+    if bytes.is_empty() {
+        return Ok(());
+    }
     let mut file = OpenOptions::new().append(true).open(rt, name)?;
     file.write_all(bytes)
 }
@@ -113,25 +117,102 @@ fn has(rt: &HostRuntime, name: &str, bytes: &[u8]) -> bool {
     }
 }
 
+/// What a crash puts behind the bytes of the file, whether damage may be cut, how many lines a visit finds, what stands behind
+/// them, and the number of the file beside it and what that has.
+struct Crash {
+    shows: &'static str,
+    put: &'static [u8],
+    said: bool,
+    lines: usize,
+    how: How,
+    beside: Option<u32>,
+    aside: &'static [u8],
+}
+
+const CRASHES: &[Crash] = &[
+    Crash {
+        shows: "a new file",
+        put: b"",
+        said: false,
+        lines: 0,
+        how: How::NoHead,
+        beside: None,
+        aside: b"",
+    },
+    Crash {
+        shows: "nothing behind the lines",
+        put: b"",
+        said: false,
+        lines: 10,
+        how: How::Whole,
+        beside: None,
+        aside: b"",
+    },
+    Crash {
+        shows: "a torn line",
+        put: b"11 1 3 A0000",
+        said: false,
+        lines: 10,
+        how: How::Torn,
+        beside: Some(1),
+        aside: b"11 1 3 A0000",
+    },
+    Crash {
+        shows: "damage that may not be cut",
+        put: b"rubbish\n",
+        said: false,
+        lines: 0,
+        how: How::Barred,
+        beside: None,
+        aside: b"",
+    },
+    Crash {
+        shows: "damage that may be cut",
+        put: b"",
+        said: true,
+        lines: 10,
+        how: How::J2,
+        beside: Some(2),
+        aside: b"rubbish\n",
+    },
+    Crash {
+        shows: "an END line",
+        put: b"END 10\n",
+        said: false,
+        lines: 10,
+        how: How::Closed,
+        beside: None,
+        aside: b"",
+    },
+];
+
+/// The file has the worked lines behind each visit that is not barred.
+fn follow<W: Wait + Abort>(
+    wait: &W,
+    rt: &HostRuntime,
+    name: &str,
+    row: &Crash,
+) -> Result<(), Fail> {
+    put(rt, name, row.put)?;
+    let visited = visit(wait, rt, name, row.said)?;
+    let is_found = visited == (row.lines, row.how, row.beside);
+    let is_left = row.how == How::Barred || has(rt, name, part(0, 356));
+    holds(wait, is_found && is_left, row.shows, "what is found");
+    if let Some(number) = row.beside {
+        let beside = format!(in rt.alloc(); "{name}.torn-{number}")?;
+        let is_kept = has(rt, beside.as_str(), row.aside);
+        holds(wait, is_kept, row.shows, "what is kept beside");
+    }
+    Ok(())
+}
+
 #[test]
 fn goes_on_with_a_real_file(rt: HostRuntime) -> Result<(), Fail> {
     let folder = folder(&rt)?;
     let name = format!(in rt.alloc(); "{folder}/journal")?;
-    let torn = format!(in rt.alloc(); "{folder}/journal.torn-1")?;
-    let damaged = format!(in rt.alloc(); "{folder}/journal.torn-2")?;
-    let file = name.as_str();
-    assert!(rt; visit(&rt, &rt, file, false)? == (0, "no head", None));
-    assert!(rt; has(&rt, file, part(0, 356)));
-    assert!(rt; visit(&rt, &rt, file, false)? == (10, "whole", None));
-    put(&rt, file, b"11 1 3 A0000")?;
-    assert!(rt; visit(&rt, &rt, file, false)? == (10, "torn", Some(1)));
-    assert!(rt; has(&rt, torn.as_str(), b"11 1 3 A0000") && has(&rt, file, part(0, 356)));
-    put(&rt, file, b"rubbish\n")?;
-    assert!(rt; visit(&rt, &rt, file, false)? == (0, "barred", None));
-    assert!(rt; visit(&rt, &rt, file, true)? == (10, "J2", Some(2)));
-    assert!(rt; has(&rt, damaged.as_str(), b"rubbish\n") && has(&rt, file, part(0, 356)));
-    put(&rt, file, b"END 10\n")?;
-    assert!(rt; visit(&rt, &rt, file, false)? == (10, "closed", None));
+    for row in CRASHES {
+        follow(&rt, &rt, name.as_str(), row)?;
+    }
     fs::remove_dir_all(&rt, folder.as_str())?;
     Ok(())
 }

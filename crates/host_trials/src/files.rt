@@ -7,11 +7,61 @@ use seat_recovery::{Damage, Recovered, RecoveryFault, Rest, recover};
 use seat_rules::{ReplayFault, ReplayKind};
 use std::alloc::Global;
 
-/// Why a test failed.
-pub type Why = &'static str;
+/// Why a test failed: what it wanted and did not find.
+#[derive(Clone, Copy, Debug)]
+pub enum Why {
+    /// The file failed.
+    Device,
+    /// A growth was refused.
+    Memory,
+    Grid,
+    File,
+    Journal,
+    Viewer,
+    Requests,
+    ALineForEach,
+    TheWorkedLines,
+    TheLinesOneByOne,
+    SoManyLines,
+    AllVisible,
+    TheHead,
+    WhatWasTold,
+    TheSameAgain,
+    AFailedEnd,
+    OneFailure,
+    WhatIsLeft,
+}
+
+/// What stands behind the lines that are kept, by its code where it is damage, or why there are none.
+#[derive(Clone, Copy, PartialEq, Eq)]
+pub enum How {
+    NoHead,
+    Whole,
+    Closed,
+    Torn,
+    OtherHead,
+    Barred,
+    /// A growth was refused.
+    Memory,
+    /// The file beside it failed.
+    Beside,
+    /// The file failed.
+    Device,
+    J1,
+    J2,
+    J3,
+    J4,
+    P1,
+    P2,
+    P3,
+    P4,
+    P5,
+    P6,
+    P7,
+}
 
 /// What is found: how many lines and bytes are kept, what stands behind them, and where.
-pub type Found = (usize, usize, &'static str, usize);
+pub type Found = (usize, usize, How, usize);
 
 /// Where the head and each line of the text end.
 pub const ENDS: [usize; 11] = [14, 45, 76, 107, 153, 184, 223, 247, 278, 324, 356];
@@ -58,19 +108,24 @@ pub fn kept(len: usize) -> (usize, usize) {
 /// What is to be found in the first `len` bytes alone.
 pub fn alone(len: usize) -> Found {
     if len < 14 {
-        return (0, 0, "no head", 0);
+        return (0, 0, How::NoHead, 0);
     }
     let (lines, end) = kept(len);
-    (lines, end, if end == len { "whole" } else { "torn" }, 0)
+    (
+        lines,
+        end,
+        if end == len { How::Whole } else { How::Torn },
+        0,
+    )
 }
 
 /// What is to be found where a whole line that is none stands behind what is kept of the first `len` bytes.
 pub fn spoilt(len: usize) -> Found {
     if len < 14 {
-        return (0, 0, "other head", 1);
+        return (0, 0, How::OtherHead, 1);
     }
     let (lines, end) = kept(len);
-    (lines, end, "J2", lines.saturating_add(2))
+    (lines, end, How::J2, lines.saturating_add(2))
 }
 
 /// One leg with three seats of Y, for which two may wait.
@@ -85,34 +140,34 @@ pub fn grid(alloc: Global) -> Option<Grid> {
     Grid::single(alloc, Ladder::new(&[step]).ok()?).ok()
 }
 
-fn name_of_text(fault: JournalFault) -> (&'static str, usize) {
+fn name_of_text(fault: JournalFault) -> (How, usize) {
     match fault.kind {
-        JournalKind::Head => ("J1", fault.line as usize),
-        JournalKind::Line => ("J2", fault.line as usize),
-        JournalKind::End => ("J3", fault.line as usize),
-        JournalKind::Memory => ("J4", fault.line as usize),
+        JournalKind::Head => (How::J1, fault.line as usize),
+        JournalKind::Line => (How::J2, fault.line as usize),
+        JournalKind::End => (How::J3, fault.line as usize),
+        JournalKind::Memory => (How::J4, fault.line as usize),
     }
 }
 
-fn name_of_entry(fault: ReplayFault) -> (&'static str, usize) {
+fn name_of_entry(fault: ReplayFault) -> (How, usize) {
     match fault.kind {
-        ReplayKind::BadNumber => ("P1", fault.number as usize),
-        ReplayKind::OtherReply => ("P2", fault.number as usize),
-        ReplayKind::OtherReleased => ("P3", fault.number as usize),
-        ReplayKind::OtherAdvices => ("P4", fault.number as usize),
-        ReplayKind::BadCaller => ("P5", fault.number as usize),
-        ReplayKind::Memory => ("P6", fault.number as usize),
-        ReplayKind::BadCommand => ("P7", fault.number as usize),
+        ReplayKind::BadNumber => (How::P1, fault.number as usize),
+        ReplayKind::OtherReply => (How::P2, fault.number as usize),
+        ReplayKind::OtherReleased => (How::P3, fault.number as usize),
+        ReplayKind::OtherAdvices => (How::P4, fault.number as usize),
+        ReplayKind::BadCaller => (How::P5, fault.number as usize),
+        ReplayKind::Memory => (How::P6, fault.number as usize),
+        ReplayKind::BadCommand => (How::P7, fault.number as usize),
     }
 }
 
 /// What a rest is called, and where its fault is.
-pub fn name_of(rest: Rest) -> (&'static str, usize) {
+pub fn name_of(rest: Rest) -> (How, usize) {
     match rest {
-        Rest::NoHead => ("no head", 0),
-        Rest::Whole => ("whole", 0),
-        Rest::Closed => ("closed", 0),
-        Rest::Torn => ("torn", 0),
+        Rest::NoHead => (How::NoHead, 0),
+        Rest::Whole => (How::Whole, 0),
+        Rest::Closed => (How::Closed, 0),
+        Rest::Torn => (How::Torn, 0),
         Rest::Damaged(Damage::Journal(fault)) => name_of_text(fault),
         Rest::Damaged(Damage::Replay(fault)) => name_of_entry(fault),
     }
@@ -134,35 +189,35 @@ pub fn recovered(
 /// What is found in these bytes over the worked leg.
 pub fn found(alloc: Global, cap: u32, file: &[u8]) -> Result<Found, Why> {
     let Some(grid) = grid(alloc) else {
-        return Err("a grid");
+        return Err(Why::Grid);
     };
     match recovered(alloc, grid, cap, file) {
         Ok(Recovered { core, len, rest }) => {
             let (name, place) = name_of(rest);
             Ok((core.journal().len(), len, name, place))
         }
-        Err(RecoveryFault::Head) => Ok((0, 0, "other head", 1)),
-        Err(RecoveryFault::Memory) => Err("memory"),
+        Err(RecoveryFault::Head) => Ok((0, 0, How::OtherHead, 1)),
+        Err(RecoveryFault::Memory) => Err(Why::Memory),
     }
 }
 
 /// The first `len` bytes of the text, and these behind them.
 pub fn file_of(alloc: Global, len: usize, behind: &[u8]) -> Result<Vec<u8>, Why> {
     let Some((front, _)) = text().split_at_checked(len) else {
-        return Err("a shorter file");
+        return Err(Why::File);
     };
     let Ok(mut file) = Vec::from_slice(alloc, front) else {
-        return Err("memory");
+        return Err(Why::Memory);
     };
     match file.extend_from_slice(behind) {
         Ok(()) => Ok(file),
-        Err(_) => Err("memory"),
+        Err(_) => Err(Why::Memory),
     }
 }
 
 /// The lines of a journal's text.
 pub fn entries(alloc: Global, text: &[u8]) -> Result<Entries, Why> {
-    lines_of(alloc, text).ok_or("a journal")
+    lines_of(alloc, text).ok_or(Why::Journal)
 }
 
 /// The ten lines.

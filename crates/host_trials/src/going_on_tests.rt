@@ -3,7 +3,7 @@ ghost use Rattle.std.specs.Prelude.{◌≡◌};
 
 use crate::deed_tests::{Deeds, act_all, gather_all, parts_of, play};
 use crate::inventories::grid_of;
-use crate::steps::{Row, lines_of};
+use crate::steps::{Row, holds, lines_of};
 use seat_core::{Core, replay};
 use seat_host::{Host, Hosting, Parts, Settled};
 use seat_journal::Entry;
@@ -22,7 +22,7 @@ struct Days {
 /// A legal journal has no line of a session above.
 const SESSIONS: u8 = 8;
 
-const DAYS: [Days; 3] = [
+const DAYS: &[Days] = &[
     // Of the first three lines a seat of Y and one of F are held.
     Days {
         first: b"new line
@@ -132,7 +132,16 @@ fn first_day<K: Hosting, R: Wait + Abort>(
         × (parts.names ≡ K.names) }
 {
     let (host, mut manager, mut seats) = Host::<K>::open(rt, alloc, parts).ok()?;
-    let acted = act_all(rt, alloc, &host, &mut manager, &mut seats, lines, row);
+    let acted = act_all(
+        rt,
+        alloc,
+        &host,
+        &mut manager,
+        &mut seats,
+        lines,
+        row.steps,
+        row.shows,
+    );
     let settled = gather_all(rt, alloc, host, manager, seats)?;
     acted?;
     Some(settled)
@@ -159,9 +168,9 @@ fn is_played<R: Wait + Abort>(rt: &R, alloc: Global, row: &Days) -> bool {
 
 #[test]
 fn hosts_go_on(rt: HostRuntime) -> Result<(), Fail> {
-    for row in &DAYS {
+    for row in DAYS {
         let is_open = is_played(&rt, rt.alloc(), row) || is_played(&rt, rt.alloc(), row);
-        assert!(&rt; is_open, "{}: opened", row.later.row.shows);
+        holds(&rt, is_open, row.later.row.shows, "opened");
     }
     Ok(())
 }

@@ -1,7 +1,8 @@
 //! Going on from what a file has: each beginning of it, torn ends, an END line and damage, and a file that fails at each call.
 //! A call of the file is a sync, a cut, an append or a sync again: four in all.
-use crate::desk::{DEVICE, Desk, MEMORY, are_behind, asked_by, seated};
-use crate::files::{Why, alone, file_of, grid, kept, name_of, part, text, worked};
+use crate::desk::{Desk, are_behind, asked_by, seated};
+use crate::files::{How, Why, alone, file_of, grid, kept, name_of, part, text, worked};
+use crate::steps::holds_at;
 use airline_base::Failures;
 use seat_disk::{Fuse, TornTape};
 use seat_journal::Entry;
@@ -14,32 +15,32 @@ use std::test::Fail;
 /// What came of going on: what stood behind the lines or why there are none, how many lines there are, and the two files.
 #[derive(Drop)]
 struct Gone {
-    how: &'static str,
+    how: How,
     lines: u32,
     file: Fuse<TornTape>,
     beside: TornTape,
 }
 
-fn why_not(fault: GoOnFault) -> &'static str {
+fn why_not(fault: GoOnFault) -> How {
     match fault {
-        GoOnFault::Head => "other head",
-        GoOnFault::Barred(_) => "barred",
-        GoOnFault::Memory => MEMORY,
-        GoOnFault::Beside => "the file beside it failed",
-        GoOnFault::Device => DEVICE,
+        GoOnFault::Head => How::OtherHead,
+        GoOnFault::Barred(_) => How::Barred,
+        GoOnFault::Memory => How::Memory,
+        GoOnFault::Beside => How::Beside,
+        GoOnFault::Device => How::Device,
     }
 }
 
 /// Goes on with a file that fails behind so many calls, and leaves it again.
 fn go<R: Wait>(rt: &R, alloc: Global, file: &[u8], calls: u64, said: bool) -> Result<Gone, Why> {
     if file.len() > 1_000_000 {
-        return Err("a shorter file");
+        return Err(Why::File);
     }
     let Some(grid) = grid(alloc) else {
-        return Err("a grid");
+        return Err(Why::Grid);
     };
     let Ok(own) = Vec::from_slice(alloc, file) else {
-        return Err(MEMORY);
+        return Err(Why::Memory);
     };
     let tape = Fuse::new(TornTape::over(own), calls);
     let mut beside = TornTape::over(Vec::new(alloc));
@@ -69,51 +70,93 @@ fn goes_on_from_each_byte(rt: HostRuntime) -> Result<(), Fail> {
     for len in 0..357usize {
         let gone = go(&rt, rt.alloc(), part(0, len), 9, false)?;
         let (lines, end, how, _) = alone(len);
-        assert!(rt;
-            gone.how == how && gone.lines as usize == lines,
-            "{len} bytes"
-        );
+        let is_gone = gone.how == how && gone.lines as usize == lines;
+        holds_at(&rt, is_gone, "goes on from", len);
         let front = if len < 14 { 14 } else { end };
         let is_cut = gone.file.into_inner().bytes() == part(0, front);
-        assert!(rt; is_cut, "what is left of {len} bytes");
-        let aside = if how == "torn" { part(end, len) } else { b"" };
-        assert!(rt; gone.beside.bytes() == aside, "kept beside {len} bytes");
+        holds_at(&rt, is_cut, "what is left of", len);
+        let beside = if how == How::Torn { end } else { len };
+        let is_kept = gone.beside.bytes() == part(beside, len);
+        holds_at(&rt, is_kept, "kept beside", len);
     }
     Ok(())
 }
 
-// What stands behind the third line, whether damage may be cut, what comes of it, and whether it is kept beside.
+/// What stands behind the third line, whether damage may be cut, what comes of it, and whether it is kept beside.
+struct Tail {
+    behind: &'static [u8],
+    said: bool,
+    how: How,
+    is_kept: bool,
+}
+
+const TAILS: &[Tail] = &[
+    Tail {
+        behind: b"END 3\n",
+        said: false,
+        how: How::Closed,
+        is_kept: false,
+    },
+    Tail {
+        behind: b"END 4\n",
+        said: false,
+        how: How::Barred,
+        is_kept: false,
+    },
+    Tail {
+        behind: b"END 4\n",
+        said: true,
+        how: How::J3,
+        is_kept: true,
+    },
+    Tail {
+        behind: b"4 1 2 A00001 0.0.0 Y XX 1 HX 2\n",
+        said: false,
+        how: How::Barred,
+        is_kept: false,
+    },
+    Tail {
+        behind: b"4 1 2 A00001 0.0.0 Y XX 1 HX 2\n",
+        said: true,
+        how: How::P3,
+        is_kept: true,
+    },
+    Tail {
+        behind: b"4 1 2 A00001",
+        said: false,
+        how: How::Torn,
+        is_kept: true,
+    },
+    Tail {
+        behind: b"rubbish\nand more",
+        said: true,
+        how: How::J2,
+        is_kept: true,
+    },
+];
+
+/// Whether these are the first `len` bytes of all.
+fn are_first(bytes: &[u8], len: usize, all: &[u8]) -> bool {
+    bytes.len() == len && all.starts_with(bytes)
+}
+
 #[test]
 fn cuts_what_it_may(rt: HostRuntime) -> Result<(), Fail> {
-    let rows: [(&[u8], bool, &str, bool); 7] = [
-        (b"END 3\n", false, "closed", false),
-        (b"END 4\n", false, "barred", false),
-        (b"END 4\n", true, "J3", true),
-        (b"4 1 2 A00001 0.0.0 Y XX 1 HX 2\n", false, "barred", false),
-        (b"4 1 2 A00001 0.0.0 Y XX 1 HX 2\n", true, "P3", true),
-        (b"4 1 2 A00001", false, "torn", true),
-        (b"rubbish\nand more", true, "J2", true),
-    ];
-    for (behind, said, how, is_kept) in rows {
-        let file = file_of(rt.alloc(), 107, behind)?;
-        let gone = go(&rt, rt.alloc(), file.as_slice(), 9, said)?;
-        let count = behind.len();
-        assert!(rt; gone.how == how, "goes on ahead of {count} bytes");
-        let is_barred = how == "barred";
-        let left = if is_barred {
-            file.as_slice()
+    for tail in TAILS {
+        let count = tail.behind.len();
+        let file = file_of(rt.alloc(), 107, tail.behind)?;
+        let gone = go(&rt, rt.alloc(), file.as_slice(), 9, tail.said)?;
+        holds_at(&rt, gone.how == tail.how, "goes on ahead of", count);
+        let left = if tail.how == How::Barred {
+            file.len()
         } else {
-            part(0, 107)
+            107
         };
-        assert!(rt;
-            gone.file.into_inner().bytes() == left,
-            "what is left ahead of {count} bytes"
-        );
-        let aside: &[u8] = if is_kept { behind } else { b"" };
-        assert!(rt;
-            gone.beside.bytes() == aside,
-            "kept beside of {count} bytes"
-        );
+        let is_left = are_first(gone.file.into_inner().bytes(), left, file.as_slice());
+        holds_at(&rt, is_left, "what is left ahead of", count);
+        let kept = if tail.is_kept { count } else { 0 };
+        let is_kept = are_first(gone.beside.bytes(), kept, tail.behind);
+        holds_at(&rt, is_kept, "kept beside of", count);
     }
     Ok(())
 }
@@ -121,14 +164,18 @@ fn cuts_what_it_may(rt: HostRuntime) -> Result<(), Fail> {
 // One line more than a group is not cut, whoever says so.
 #[test]
 fn cuts_one_group(rt: HostRuntime) -> Result<(), Fail> {
-    for (count, how) in [(4_096usize, "J2"), (4_097, "barred")] {
+    for (count, how) in [(4_096usize, How::J2), (4_097, How::Barred)] {
         let mut behind = Vec::new(rt.alloc());
         behind.resize(count, b'\n')?;
         let file = file_of(rt.alloc(), 107, behind.as_slice())?;
         let gone = go(&rt, rt.alloc(), file.as_slice(), 9, true)?;
-        assert!(rt; gone.how == how, "{count} lines");
+        holds_at(&rt, gone.how == how, "lines", count);
     }
     Ok(())
+}
+
+fn fails(rt: &impl Abort, is_right: bool, shows: &str, len: usize, calls: u64) {
+    assert!(rt; is_right, "{shows} {len} bytes, behind {calls}");
 }
 
 // A file that fails at each call: one failure is counted, and its lines are all there, torn or not.
@@ -139,20 +186,16 @@ fn loses_no_line_where_it_fails(rt: HostRuntime) -> Result<(), Fail> {
             let gone = go(&rt, rt.alloc(), part(0, len), calls, false)?;
             let (lines, _) = kept(len.max(14));
             let is_whole = calls == 4;
-            let how = if is_whole { alone(len).2 } else { DEVICE };
-            assert!(rt; gone.how == how, "{len} bytes, behind {calls}");
+            let how = if is_whole { alone(len).2 } else { How::Device };
+            fails(&rt, gone.how == how, "goes on from", len, calls);
             let failures = if is_whole { 0 } else { 1 };
-            assert!(rt;
-                gone.file.failures() == failures,
-                "counted of {len}, behind {calls}"
-            );
+            let is_counted = gone.file.failures() == failures;
+            fails(&rt, is_counted, "counted of", len, calls);
             let mut file = gone.file.into_inner();
             file.crash(b"");
             let again = go(&rt, rt.alloc(), file.bytes(), 9, false)?;
-            assert!(rt;
-                again.lines as usize == lines,
-                "lines of {len}, behind {calls}"
-            );
+            let is_there = again.lines as usize == lines;
+            fails(&rt, is_there, "lines of", len, calls);
         }
     }
     Ok(())
@@ -161,13 +204,13 @@ fn loses_no_line_where_it_fails(rt: HostRuntime) -> Result<(), Fail> {
 /// Goes on, asks for all that is wanting of the worked lines, and ends.
 fn finished<R: Wait>(rt: &R, alloc: Global, file: &[u8]) -> Result<Fuse<TornTape>, Why> {
     if file.len() > 1_000_000 {
-        return Err("a shorter file");
+        return Err(Why::File);
     }
     let Some(grid) = grid(alloc) else {
-        return Err("a grid");
+        return Err(Why::Grid);
     };
     let Ok(own) = Vec::from_slice(alloc, file) else {
-        return Err(MEMORY);
+        return Err(Why::Memory);
     };
     let lines = worked(alloc)?;
     let tape = Fuse::new(TornTape::over(own), 99);
@@ -183,11 +226,11 @@ fn finished<R: Wait>(rt: &R, alloc: Global, file: &[u8]) -> Result<Fuse<TornTape
         tape,
         &mut beside,
     ) else {
-        return Err("an open journal");
+        return Err(Why::Journal);
     };
     let found = 20u32.saturating_sub(serving.room()) as usize;
     let Ok(desk) = seated(rt, serving, viewers) else {
-        return Err("a viewer");
+        return Err(Why::Viewer);
     };
     let mut desk = desk;
     let asked = ask_rest(rt, alloc, &mut desk, found, lines.as_slice());
@@ -208,13 +251,13 @@ fn ask_rest<R: Wait>(
     found: usize,
     lines: &[Entry],
 ) -> Result<(), Why> {
-    let Some((_, behind)) = lines.split_at_checked(found) else {
-        return Err("fewer lines");
+    let Some(behind) = lines.get(found..lines.len()) else {
+        return Err(Why::SoManyLines);
     };
     let asked = asked_by(alloc, behind)?;
     let answered = desk.answer(rt, alloc, asked.as_slice())?;
     if !are_behind(answered.lines.as_slice(), found, lines) {
-        return Err("the worked lines");
+        return Err(Why::TheWorkedLines);
     }
     Ok(())
 }
@@ -225,10 +268,8 @@ fn ends_with_the_same_journal(rt: HostRuntime) -> Result<(), Fail> {
     let whole = file_of(rt.alloc(), text().len(), b"END 10\n")?;
     for len in 0..357usize {
         let file = finished(&rt, rt.alloc(), part(0, len))?;
-        assert!(rt;
-            file.into_inner().bytes() == whole.as_slice(),
-            "{len} bytes"
-        );
+        let is_whole = file.into_inner().bytes() == whole.as_slice();
+        holds_at(&rt, is_whole, "ends behind", len);
     }
     Ok(())
 }

@@ -1,6 +1,6 @@
 //! Want of memory: a group ends ahead of the request for which a growth was refused, and the rest is answered when it is
 //! asked again. The test passes with any one growth refused, and takes no more than one refusal as an answer.
-use crate::desk::{DEVICE, Desk, MEMORY, are_behind, asked_by};
+use crate::desk::{Desk, are_behind, asked_by};
 use crate::files::{ENDS, Why, grid, part, text, worked};
 use seat_journal::{Entries, Entry};
 use seat_serving::{Asked, Stop};
@@ -27,7 +27,7 @@ fn asked_again(alloc: Global, lines: &[Entry]) -> Result<Vec<Asked>, Why> {
 /// A journal of no line. Where it is refused, by the file too, the file is empty.
 fn open<R: Wait>(rt: &R, alloc: Global) -> Result<Desk, Why> {
     let Some(grid) = grid(alloc) else {
-        return Err(MEMORY);
+        return Err(Why::Memory);
     };
     match Desk::open(rt, alloc, grid, 10, 99) {
         Ok(desk) => Ok(desk),
@@ -35,7 +35,7 @@ fn open<R: Wait>(rt: &R, alloc: Global) -> Result<Desk, Why> {
             if file.into_inner().bytes().is_empty() {
                 Err(why)
             } else {
-                Err("an empty file")
+                Err(Why::File)
             }
         }
     }
@@ -45,13 +45,8 @@ fn open<R: Wait>(rt: &R, alloc: Global) -> Result<Desk, Why> {
 fn open_again<R: Wait>(rt: &R, alloc: Global) -> Result<(Desk, u32), Why> {
     match open(rt, alloc) {
         Ok(desk) => Ok((desk, 0)),
-        Err(why) => {
-            if why != MEMORY && why != DEVICE {
-                return Err(why);
-            }
-            let desk = open(rt, alloc)?;
-            Ok((desk, 1))
-        }
+        Err(Why::Memory | Why::Device) => Ok((open(rt, alloc)?, 1)),
+        Err(why) => Err(why),
     }
 }
 
@@ -75,33 +70,29 @@ fn answer_rest<R: Wait>(
     lines: &[Entry],
     progress: &mut Progress,
 ) -> Result<(), Why> {
-    let Some((_, rest)) = asked.split_at_checked(progress.told) else {
-        return Err("ten requests");
+    let Some(rest) = asked.get(progress.told..asked.len()) else {
+        return Err(Why::Requests);
     };
     match desk.answer(rt, alloc, rest) {
         Ok(answered) => {
             if !are_behind(answered.lines.as_slice(), progress.told, lines) {
-                return Err("the worked lines");
+                return Err(Why::TheWorkedLines);
             }
             progress.told = progress.told.saturating_add(answered.lines.len());
             match answered.stop {
                 Some(Stop::Memory) => refused(progress),
-                Some(Stop::Full) => return Err("a short group"),
+                Some(Stop::Full) => return Err(Why::ALineForEach),
                 None => if progress.told != 10 {
-                    return Err("a line for each");
+                    return Err(Why::ALineForEach);
                 },
             }
         }
-        Err(why) => {
-            if why != MEMORY && why != DEVICE {
-                return Err(why);
-            }
-            refused(progress);
-        }
+        Err(Why::Memory | Why::Device) => refused(progress),
+        Err(why) => return Err(why),
     }
     match desk.look() {
         Some((_, seen)) if seen as usize == progress.told => Ok(()),
-        _ => Err("what is visible"),
+        _ => Err(Why::AllVisible),
     }
 }
 
@@ -140,7 +131,7 @@ fn ends<R: Wait>(rt: &R, alloc: Global, desk: Desk, progress: &mut Progress) -> 
         }
         Err((why, file)) => {
             refused(progress);
-            (why == MEMORY || why == DEVICE) && file.into_inner().bytes() == text()
+            matches!(why, Why::Memory | Why::Device) && file.into_inner().bytes() == text()
         }
     }
 }
@@ -161,10 +152,10 @@ fn try_all<R: Wait>(rt: &R, alloc: Global) -> Result<(), Why> {
     };
     answered?;
     if !is_right || (is_open && progress.told != 10) {
-        return Err("what is left");
+        return Err(Why::WhatIsLeft);
     }
     if progress.refused > 1 {
-        return Err("one refusal");
+        return Err(Why::OneFailure);
     }
     Ok(())
 }

@@ -3,7 +3,8 @@ ghost use Rattle.std.specs.Prelude.{◌≡◌, ◌≤◌, IfSome, length};
 ghost use Rattle.seat_nesting.specs.Nesting.{IsDistinct};
 
 use crate::deed_tests::{act_all, gather_all};
-use crate::steps::{Row, lines_of, same};
+use crate::looks::{manager_finds, session_finds};
+use crate::steps::{holds_at, lines_of};
 use airline_base::{Class, Place};
 use seat_host::{Host, Hosting, Manager, Parts, Session};
 use seat_journal::Entry;
@@ -23,12 +24,9 @@ const LINES: &[u8] = b"SEATJOURNAL 2
 END 4
 ";
 
-const NEXT: Row = Row {
-    shows: "the next line",
-    lines: LINES,
-    steps: b"new line
-",
-};
+/// The step that asks for the next line.
+const NEXT: &[u8] = b"new line
+";
 
 /// A place by its first leg and its last, and the seats that are left there before the first line and after each. A place
 /// of several legs has what the scarcest of them has.
@@ -103,7 +101,12 @@ fn place_of(seen: &Seen) -> Place {
     }
 }
 
-/// The manager and the session find at each place what so many lines leave. All places are looked at once.
+/// The seats that so many lines leave there. (No place has as many as are given where there are more lines.)
+fn room_of(seen: &Seen, lines: usize) -> u16 {
+    seen.rooms.get(lines).copied().unwrap_or(999)
+}
+
+/// The manager and the session find at each place what so many lines leave.
 fn compare<K: Hosting>(
     rt: &impl Abort,
     manager: &mut Manager<K>,
@@ -113,19 +116,26 @@ fn compare<K: Hosting>(
     let class = Class::new(b'F')?;
     for seen in &PLACES {
         let place = place_of(seen);
-        let want = u64::from(*seen.rooms.get(lines)?);
-        let managed = manager.look(|sight| sight.room(place, class))?;
-        same(rt, u64::from(managed), want, "what the manager finds");
-        let found = session.look(|sight| sight.room(place, class))?;
-        same(rt, u64::from(found), want, "what the session finds");
+        let want = Some(room_of(seen, lines));
+        let managed = manager_finds(manager, place, class) == want;
+        holds_at(rt, managed, "what the manager finds", lines);
+        let found = session_finds(session, place, class) == want;
+        holds_at(rt, found, "what the session finds", lines);
     }
-    let whole = place_of(PLACES.last()?);
-    let first = place_of(PLACES.first()?);
-    let pair = session.look(|sight| (sight.room(whole, class), sight.room(first, class)))?;
-    let want = (
-        *PLACES.last()?.rooms.get(lines)?,
-        *PLACES.first()?.rooms.get(lines)?,
-    );
+    compare_pair(rt, session, class, lines)
+}
+
+/// The same at the last place and at the first, which are looked at once.
+fn compare_pair<K: Hosting>(
+    rt: &impl Abort,
+    session: &mut Session<K>,
+    class: Class,
+    lines: usize,
+) -> Option<()> {
+    let (first, last) = (&PLACES[0], &PLACES[5]);
+    let (one, all) = (place_of(first), place_of(last));
+    let pair = session.look(|sight| (sight.room(all, class), sight.room(one, class)))?;
+    let want = (room_of(last, lines), room_of(first, lines));
     assert!(rt; pair == want, "two places in one look");
     Some(())
 }
@@ -140,7 +150,16 @@ fn ask_and_look<K: Hosting, R: Wait + Abort>(
 ) -> Option<()> {
     compare(rt, manager, sessions.get_mut(0)?, 0)?;
     for asked in 0..lines.len() {
-        act_all(rt, alloc, host, manager, sessions, lines, &NEXT)?;
+        act_all(
+            rt,
+            alloc,
+            host,
+            manager,
+            sessions,
+            lines,
+            NEXT,
+            "the next line",
+        )?;
         compare(rt, manager, sessions.get_mut(0)?, asked + 1)?;
     }
     Some(())

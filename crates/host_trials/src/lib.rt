@@ -32,6 +32,8 @@ mod inventories;
 #[cfg(test)]
 mod leg_tests;
 #[cfg(test)]
+mod looks;
+#[cfg(test)]
 mod lot_tests;
 #[cfg(test)]
 mod lots;

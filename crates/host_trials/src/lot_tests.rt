@@ -1,7 +1,8 @@
 //! Crashes drawn by lot: what was told is found again, however the file is torn behind it.
-use crate::desk::{DEVICE, Desk, MEMORY, are_behind};
+use crate::desk::{Desk, are_behind};
 use crate::files::{Why, recovered};
 use crate::lots::{Lots, two_classes};
+use crate::steps::holds_at;
 use seat_core::Core;
 use seat_disk::{Tape, TornTape};
 use seat_journal::Entry;
@@ -10,7 +11,6 @@ use seat_recovery::{Recovered, RecoveryFault, Rest, open_text};
 use seat_rules::may_ask;
 use seat_serving::Asked;
 use std::alloc::Global;
-use std::process::Abort;
 use std::sync::Wait;
 use std::test::Fail;
 
@@ -20,7 +20,7 @@ const CAP: u32 = 99;
 fn grid(alloc: Global) -> Result<Grid, Why> {
     match two_classes(alloc) {
         Some(grid) => Ok(grid),
-        None => Err("a grid"),
+        None => Err(Why::Grid),
     }
 }
 
@@ -33,12 +33,12 @@ struct Asking {
 
 fn step(core: &mut Core, alloc: Global, request: &Asked) -> Result<(), Why> {
     if !may_ask(request.session, &request.work) || !core.fits_work(&request.work) {
-        return Err("a line that may be asked for");
+        return Err(Why::Requests);
     }
     let call = core.calls_of(request.session) + 1;
     match core.step(alloc, request.session, call, request.work) {
         Ok(_) => Ok(()),
-        Err(_) => Err("a line"),
+        Err(_) => Err(Why::SoManyLines),
     }
 }
 
@@ -52,14 +52,14 @@ fn step_all(core: &mut Core, alloc: Global, group: &[Asked]) -> Result<(), Why> 
 /// One to eight groups.
 fn draw_asking(alloc: Global, lots: &mut Lots) -> Result<Asking, Why> {
     let Ok(mut core) = Core::new(alloc, grid(alloc)?, CAP) else {
-        return Err(MEMORY);
+        return Err(Why::Memory);
     };
     let mut groups = Vec::new(alloc);
     for _ in 0..lots.below(8).saturating_add(1) {
         let group = lots.group(alloc)?;
         step_all(&mut core, alloc, group.as_slice())?;
         if groups.push(group).is_err() {
-            return Err(MEMORY);
+            return Err(Why::Memory);
         }
     }
     Ok(Asking { groups, core })
@@ -84,17 +84,18 @@ fn answer_all<R: Wait>(
         match desk.answer(rt, alloc, group.as_slice()) {
             Ok(answered) => {
                 if !are_behind(answered.lines.as_slice(), told, asking.core.journal()) {
-                    return Err("the lines of one by one");
+                    return Err(Why::TheLinesOneByOne);
                 }
                 told = told.saturating_add(answered.lines.len());
             }
-            Err(why) => return if why == DEVICE { Ok(told) } else { Err(why) },
+            Err(Why::Device) => return Ok(told),
+            Err(why) => return Err(why),
         }
     }
     if told == asking.core.journal().len() {
         Ok(told)
     } else {
-        Err("a line for each")
+        Err(Why::ALineForEach)
     }
 }
 
@@ -109,28 +110,23 @@ fn leave<R: Wait>(rt: &R, alloc: Global, asking: &Asking, calls: u64) -> Result<
                 has_head: true,
             })
         }
-        Err((why, file)) => {
-            if why == DEVICE {
-                Ok(Leaving {
-                    file: file.into_inner(),
-                    told: 0,
-                    has_head: false,
-                })
-            } else {
-                Err(why)
-            }
-        }
+        Err((Why::Device, file)) => Ok(Leaving {
+            file: file.into_inner(),
+            told: 0,
+            has_head: false,
+        }),
+        Err((why, _)) => Err(why),
     }
 }
 
 /// How many bytes the head and these lines have.
 fn len_of(alloc: Global, lines: &[Entry], count: usize) -> Result<usize, Why> {
     let Some((front, _)) = lines.split_at_checked(count) else {
-        return Err("so many lines");
+        return Err(Why::SoManyLines);
     };
     match open_text(alloc, front) {
         Ok(text) => Ok(text.len()),
-        Err(_) => Err(MEMORY),
+        Err(_) => Err(Why::Memory),
     }
 }
 
@@ -147,8 +143,9 @@ fn crash(
     } else {
         0
     };
-    let Some((_, behind)) = leaving.file.bytes().split_at_checked(synced) else {
-        return Err("all that was told is in the file");
+    let bytes = leaving.file.bytes();
+    let Some(behind) = bytes.get(synced..bytes.len()) else {
+        return Err(Why::WhatWasTold);
     };
     let torn = lots.torn(alloc, behind, tear)?;
     leaving.file.crash(torn.as_slice());
@@ -173,7 +170,7 @@ fn is_right(
     tear: u32,
 ) -> Result<bool, Why> {
     let kept = found.core.journal();
-    let Some((first, _)) = kept.split_at_checked(leaving.told) else {
+    let Some(first) = kept.get(..leaving.told) else {
         return Ok(false);
     };
     if !are_behind(first, 0, lines) {
@@ -192,7 +189,7 @@ fn is_right(
 /// Cuts the file back to what is kept of it, and recovers it once more.
 fn is_found_again(alloc: Global, leaving: &mut Leaving, found: &Recovered) -> Result<bool, Why> {
     if leaving.file.cut(found.len as u64).is_err() {
-        return Err("a cut");
+        return Err(Why::File);
     }
     let Ok(again) = recovered(alloc, grid(alloc)?, CAP, leaving.file.bytes()) else {
         return Ok(false);
@@ -254,23 +251,23 @@ fn try_crash<R: Wait>(
         Ok(found) => {
             count(counts, &leaving, &found);
             if !is_right(alloc, lines, &leaving, &found, tear)? {
-                return Err("what was told, first");
+                return Err(Why::WhatWasTold);
             }
             if is_found_again(alloc, &mut leaving, &found)? {
                 Ok(())
             } else {
-                Err("the same again")
+                Err(Why::TheSameAgain)
             }
         }
         // Only of a head that was on its way.
         Err(RecoveryFault::Head) => {
             if leaving.has_head {
-                Err("the head")
+                Err(Why::TheHead)
             } else {
                 Ok(())
             }
         }
-        Err(RecoveryFault::Memory) => Err(MEMORY),
+        Err(RecoveryFault::Memory) => Err(Why::Memory),
     }
 }
 
@@ -285,12 +282,17 @@ fn finds_what_was_told_by_lot(rt: HostRuntime) -> Result<(), Fail> {
     };
     for crash in 0..10000u32 {
         let tried = try_crash(&rt, rt.alloc(), &mut lots, &mut counts);
-        assert!(rt; tried.is_ok(), "crash {crash}");
+        holds_at(&rt, tried.is_ok(), "crash", crash as usize);
     }
     // The lots are no few of each kind.
-    assert!(rt; counts.told > 2500, "{} told", counts.told);
-    assert!(rt; counts.more > 500, "{} more", counts.more);
-    assert!(rt; counts.torn > 500, "{} torn", counts.torn);
-    assert!(rt; counts.damaged > 500, "{} damaged", counts.damaged);
+    holds_at(&rt, counts.told > 2500, "told", counts.told as usize);
+    holds_at(&rt, counts.more > 500, "more", counts.more as usize);
+    holds_at(&rt, counts.torn > 500, "torn", counts.torn as usize);
+    holds_at(
+        &rt,
+        counts.damaged > 500,
+        "damaged",
+        counts.damaged as usize,
+    );
     Ok(())
 }

@@ -1,7 +1,6 @@
 //! Requests of five sessions and of the manager on one leg of two classes, in groups, and what a crash tears, drawn by lot.
 ghost use Rattle.std.specs.Prelude.{◌<◌, ◌≤◌};
 
-use crate::desk::MEMORY;
 use crate::files::Why;
 use airline_base::{Class, Code, Locator, Place};
 use seat_journal::{Change, Command, SaleChange, Work};
@@ -134,11 +133,11 @@ impl Lots {
         let mut group = Vec::new(alloc);
         for _ in 0..self.below(6) {
             let Some(Asked { session, work }) = self.request() else {
-                return Err("a request");
+                return Err(Why::Requests);
             };
             let request = Asked { session, work };
             if group.push(request).is_err() {
-                return Err(MEMORY);
+                return Err(Why::Memory);
             }
         }
         Ok(group)
@@ -153,7 +152,7 @@ impl Lots {
         for (at, byte) in bytes.iter().take(len as usize).enumerate() {
             let left = self.torn_byte(tear, *byte, at, hole as usize);
             if torn.push(left).is_err() {
-                return Err(MEMORY);
+                return Err(Why::Memory);
             }
         }
         Ok(torn)

@@ -3,6 +3,7 @@ ghost use Rattle.std.specs.Prelude.{◌≡◌};
 ghost use Rattle.std.specs.Thread.{IsSync, IsSend};
 
 use crate::inventories::{LEG, change, grid_of, sold_and_cancelled};
+use crate::looks::{session_finds, viewer_finds};
 use crate::scene::{Scene, same_look};
 use crate::steps::same;
 use airline_base::Class;
@@ -35,7 +36,7 @@ fn look_all_along<R: Wait>(rt: &R, viewer: &mut Viewer, class: Class) -> u32 {
         if before >= LINES {
             break;
         }
-        let found = viewer.look(|sight| sight.room(LEG, class));
+        let found = viewer_finds(viewer, class);
         let seen = viewer.seen();
         if seen < before || found != Some(if seen % 2 == 0 { 999 } else { 998 }) {
             wrong = wrong.saturating_add(1);
@@ -131,7 +132,7 @@ fn look_beside_changes<K: Hosting, R: Wait>(rt: &R, session: &mut Session<K>, cl
         if before >= CHANGES {
             break;
         }
-        let found = session.look(|sight| sight.room(LEG, class));
+        let found = session_finds(session, LEG, class);
         let seen = session.front_len();
         if seen < before || found != Some(if seen % 2 == 0 { 10 } else { 6 }) {
             wrong = wrong.saturating_add(1);

@@ -3,7 +3,7 @@ ghost use Rattle.std.specs.Prelude.{◌≡◌, IfSome, All};
 ghost use Rattle.seat_display.specs.Faces.{opened};
 
 use crate::feed::Feed;
-use crate::inventories::LEG;
+use crate::looks::viewer_finds;
 use crate::steps::{Step, same};
 use airline_base::Class;
 use seat_core::Core;
@@ -56,15 +56,9 @@ impl Scene {
     /// What a viewer finds, and how many lines it has then seen.
     pub fn look(&mut self, who: u8, class: Class) -> (Option<u16>, u32) {
         if who == 1 {
-            (
-                self.one.look(|sight| sight.room(LEG, class)),
-                self.one.seen(),
-            )
+            (viewer_finds(&mut self.one, class), self.one.seen())
         } else {
-            (
-                self.two.look(|sight| sight.room(LEG, class)),
-                self.two.seen(),
-            )
+            (viewer_finds(&mut self.two, class), self.two.seen())
         }
     }
 

@@ -66,6 +66,16 @@ pub fn same(rt: &impl Abort, found: u64, want: u64, shows: &str) {
     assert_eq!(rt; found, want, "{shows}");
 }
 
+/// Stops where this is wrong of what a row shows.
+pub fn holds(rt: &impl Abort, is_right: bool, shows: &str, what: &str) {
+    assert!(rt; is_right, "{shows}: {what}");
+}
+
+/// Stops where this is wrong at a place.
+pub fn holds_at(rt: &impl Abort, is_right: bool, shows: &str, at: usize) {
+    assert!(rt; is_right, "{shows}: {at}");
+}
+
 /// Whether two lines say the same.
 pub fn same_line(one: &Entry, other: &Entry) -> bool {
     one.number == other.number

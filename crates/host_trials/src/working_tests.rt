@@ -4,7 +4,7 @@ ghost use Rattle.seat_rules.specs.Journal.{FitsChange, FitsCommand, FitsControl,
 
 use crate::inventories::{change, command, grid_of, sale};
 use crate::meeting::{Holds, Meeting};
-use crate::steps::same;
+use crate::steps::{holds, holds_at, same};
 use airline_base::{Memory, Place};
 use seat_host::{BookFault, Host, Hosting, Parts, Receipt, Settled, gather};
 use seat_journal::{Change, Command, CommandList, Control, SaleChange, Work};
@@ -33,7 +33,7 @@ struct Row {
     lines: u64,
 }
 
-const OVERLAPS: [Row; 3] = [
+const OVERLAPS: &[Row] = &[
     Row {
         shows: "session 1 waits for the answer of session 2",
         changes: 0,
@@ -69,7 +69,7 @@ const OVERLAPS: [Row; 3] = [
     },
 ];
 
-const LISTS: [Row; 7] = [
+const LISTS: &[Row] = &[
     Row {
         shows: "eight sessions of a thousand calls",
         changes: 0,
@@ -159,8 +159,9 @@ fn lists_of(
     ensures { IfOk result (λ lists. All (λ list. All (λ command. FitsCommand grid.now command) list) lists.items) }
 {
     let mut lists = Vec::new(alloc);
-    for (length, initial) in lengths.iter().zip(b"ABCDEFGH".iter()) {
-        lists.push(list_of(rt, alloc, grid, *length, *initial)?)?;
+    for session in 0..lengths.len() {
+        let initial = b'A' + (session % 8) as u8;
+        lists.push(list_of(rt, alloc, grid, lengths[session], initial)?)?;
     }
     Ok(lists)
 }
@@ -335,14 +336,8 @@ fn follow<R: Threads + Wait + Clock + Abort + Sync>(
     let (faults, settled) = run::<Brand, R, Meeting<'_, R>>(
         rt, alloc, parts, &changes, &lists, &meeting,
     )?;
-    assert!(rt;
-        !meeting.held_too_long(),
-        "{}: a session was held for too long",
-        row.shows
-    );
     compare_named(rt, first_fault(&faults), row);
-    compare_ends(rt, &faults, row);
-    compare_passes(rt, &meeting, row);
+    compare_workers(rt, &faults, &meeting, row);
     compare(rt, &lists, &settled, row)
 }
 
@@ -352,63 +347,53 @@ fn compare_named(rt: &impl Abort, first: Option<&RunFault>, row: &Row) {
         None => (0, 0),
         Some(fault) => {
             let refusal = &fault.refusal;
-            assert!(rt;
-                refusal.fault == BookFault::JournalFull,
-                "{}: the fault",
-                row.shows
-            );
-            assert!(rt;
-                refusal.held.len() == row.cap,
-                "{}: what the lock held",
-                row.shows
-            );
+            let is_full = refusal.fault == BookFault::JournalFull && refusal.held.len() == row.cap;
+            holds(rt, is_full, row.shows, "the fault, and what the lock held");
             (fault.session, fault.call)
         }
     };
-    assert!(rt; named == row.named, "{}: the call that is named", row.shows);
+    holds(rt, named == row.named, row.shows, "the call that is named");
 }
 
-/// A worker has a fault at its place where it was refused, so where it has fewer receipts than it was to make calls.
-fn compare_ends(rt: &impl Abort, faults: &[Option<RunFault>], row: &Row) {
-    let Some((manager, others)) = faults.split_first() else {
-        return;
-    };
-    assert!(rt;
-        manager.is_some() == (row.managed < row.changes),
-        "{}: how the manager ended",
-        row.shows
-    );
-    for (fault, (receipts, list)) in others.iter().zip(row.receipts.iter().zip(row.lists.iter())) {
-        assert!(rt;
-            fault.is_some() == (receipts < list),
-            "{}: how a session ended",
-            row.shows
-        );
+/// How many receipts a worker is to have, and how many calls it was to make: the manager is worker 0.
+fn wanted(row: &Row, worker: usize) -> (usize, usize) {
+    if worker == 0 {
+        return (row.managed, row.changes);
     }
+    let session = worker - 1;
+    (nth(row.receipts, session), nth(row.lists, session))
 }
 
-/// The gate was passed before and after each call: as often as there are receipts, and once more by a worker that was
-/// refused.
-fn compare_passes<C: Clock>(rt: &impl Abort, meeting: &Meeting<'_, C>, row: &Row) {
-    assert!(rt;
-        !meeting.told_wrong(),
-        "{}: what the gate was shown",
-        row.shows
+fn nth(numbers: &[usize], at: usize) -> usize {
+    numbers.get(at).copied().unwrap_or(0)
+}
+
+fn has_fault(faults: &[Option<RunFault>], worker: usize) -> bool {
+    matches!(faults.get(worker), Some(Some(_)))
+}
+
+/// A worker has a fault at its place where it was refused, so where it has fewer receipts than it was to make calls. It
+/// passed the gate before and after each call: as often as there are receipts, and once more where it was refused.
+fn compare_workers<C: Clock>(
+    rt: &impl Abort,
+    faults: &[Option<RunFault>],
+    meeting: &Meeting<'_, C>,
+    row: &Row,
+) {
+    let shows = row.shows;
+    holds(
+        rt,
+        !meeting.held_too_long(),
+        shows,
+        "a session was held for too long",
     );
-    let managed = row.managed.saturating_add(1).min(row.changes);
-    assert!(rt;
-        u64::from(meeting.passes(0)) == managed as u64,
-        "{}: the manager's calls",
-        row.shows
-    );
-    for (nth, (receipts, list)) in row.receipts.iter().zip(row.lists.iter()).enumerate() {
-        let calls = receipts.saturating_add(1).min(*list);
-        assert!(rt;
-            u64::from(meeting.passes(nth.saturating_add(1))) == calls as u64,
-            "{}: the calls of {}",
-            row.shows,
-            nth + 1
-        );
+    holds(rt, !meeting.told_wrong(), shows, "what the gate was shown");
+    for worker in 0..row.receipts.len().saturating_add(1) {
+        let (receipts, calls) = wanted(row, worker);
+        let is_refused = has_fault(faults, worker);
+        holds_at(rt, is_refused == (receipts < calls), shows, worker);
+        let passed = receipts.saturating_add(1).min(calls) as u64;
+        same(rt, u64::from(meeting.passes(worker)), passed, shows);
     }
 }
 
@@ -419,27 +404,15 @@ fn compare(rt: &impl Abort, lists: &[CommandList], settled: &Settled, row: &Row)
     if row.holds == Holds::FirstUntilAnswer {
         same(rt, u64::from(lines.first()?.session), 2, row.shows);
     }
-    let (managed, receipts) = settled.receipts.as_slice().split_first()?;
-    same(
-        rt,
-        managed.as_slice().len() as u64,
-        row.managed as u64,
-        row.shows,
-    );
-    same(
-        rt,
-        receipts.len() as u64,
-        row.receipts.len() as u64,
-        row.shows,
-    );
-    for ((own, want), list) in receipts.iter().zip(row.receipts.iter()).zip(lists.iter()) {
-        let own = own.as_slice();
-        same(rt, own.len() as u64, *want as u64, row.shows);
-        assert!(rt;
-            are_answered(own, list.as_slice()),
-            "{}: commands",
-            row.shows
-        );
+    let receipts = settled.receipts.as_slice();
+    let workers = row.receipts.len().saturating_add(1);
+    same(rt, receipts.len() as u64, workers as u64, row.shows);
+    for worker in 0..receipts.len() {
+        let own = receipts[worker].as_slice();
+        let (want, _) = wanted(row, worker);
+        same(rt, own.len() as u64, want as u64, row.shows);
+        let is_right = worker == 0 || are_answered(own, lists.get(worker - 1)?.as_slice());
+        holds(rt, is_right, row.shows, "commands");
     }
     Some(())
 }
@@ -456,7 +429,7 @@ fn are_answered(receipts: &[Receipt], commands: &[Command]) -> bool {
 
 #[test]
 fn sessions_overlap(rt: HostRuntime) -> Result<(), Fail> {
-    for row in &OVERLAPS {
+    for row in OVERLAPS {
         follow(&rt, rt.alloc(), row).ok_or(row.shows)?;
     }
     Ok(())
@@ -464,7 +437,7 @@ fn sessions_overlap(rt: HostRuntime) -> Result<(), Fail> {
 
 #[test]
 fn lists_are_booked(rt: HostRuntime) -> Result<(), Fail> {
-    for row in &LISTS {
+    for row in LISTS {
         follow(&rt, rt.alloc(), row).ok_or(row.shows)?;
     }
     Ok(())
