@@ -119,19 +119,25 @@ pub enum FileFault {
 }
 
 impl From<io::Error> for FileFault {
-    fn from(error: io::Error) -> FileFault {
+    fn from(error: io::Error) -> FileFault
+        ensures { IsTrue (is_failure (file_fault result)) }
+    {
         FileFault::Failed(Failure::of(Part::Named, &error))
     }
 }
 
 impl From<Failure> for FileFault {
-    fn from(failure: Failure) -> FileFault {
+    fn from(failure: Failure) -> FileFault
+        ensures { result ≡ FileFault.Failed failure }
+    {
         FileFault::Failed(failure)
     }
 }
 
 impl From<AllocError> for FileFault {
-    fn from(_: AllocError) -> FileFault {
+    fn from(_: AllocError) -> FileFault
+        ensures { result ≡ FileFault.Failed Failure.Memory }
+    {
         FileFault::Failed(Failure::Memory)
     }
 }
