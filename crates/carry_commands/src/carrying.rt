@@ -31,14 +31,14 @@ use std::thread::Threads;
 
 /// Carries the live bookings of a journal over the one season to the other, and writes the report. Where a leg has too few seats nothing is carried: the
 /// lines of such legs are written, and the answer says that there are any. The journal is locked from its reading to the end.
-pub fn carry<'a, R: Threads + Sync>(
-    rt: &'a HostRuntime,
+pub fn carry<R: Threads + Sync>(
+    rt: &HostRuntime,
     threads: &R,
-    meter: &'a Meter,
-    asked: &CarryJob<'a>,
-    from: &Horizon<'a>,
-    to: &Horizon<'a>,
-) -> Result<bool, Refusal<'a>> {
+    meter: &Meter,
+    asked: &CarryJob<'_>,
+    from: &Horizon<'_>,
+    to: &Horizon<'_>,
+) -> Result<bool, Refusal> {
     let from_days = days_of(from.first, from.days)?;
     let to_days = days_of(to.first, to.days)?;
     let today = day_of_run(asked.today)?;
@@ -99,7 +99,7 @@ fn together<'a, R: Threads + Sync>(
     asked: &CarryJob<'a>,
     asking: &CarryAsked<'_>,
     seasons: &mut Seasons<'a>,
-) -> Result<bool, Refusal<'a>>
+) -> Result<bool, Refusal>
     requires from_first { IsOfCentury seasons.old.from.first }
     requires from_days { (1 ≤ seasons.old.from.days) × (seasons.old.from.days ≤ 366) }
     requires to_first { IsOfCentury seasons.old.to.first }
@@ -120,7 +120,7 @@ fn tried<'a, R: Threads + Sync>(
     asked: &CarryJob<'a>,
     asking: &CarryAsked<'_>,
     seasons: &mut Seasons<'a>,
-) -> Result<bool, Refusal<'a>>
+) -> Result<bool, Refusal>
     requires from_first { IsOfCentury seasons.old.from.first }
     requires from_days { (1 ≤ seasons.old.from.days) × (seasons.old.from.days ≤ 366) }
     requires to_first { IsOfCentury seasons.old.to.first }
@@ -161,7 +161,7 @@ fn carried<'a, R: Threads + Sync>(
     seasons: &mut Seasons<'a>,
     older: &mut Older<'a>,
     text: &Option<Vec<u8>>,
-) -> Result<bool, Refusal<'a>>
+) -> Result<bool, Refusal>
     requires from_first { IsOfCentury seasons.old.from.first }
     requires from_days { (1 ≤ seasons.old.from.days) × (seasons.old.from.days ≤ 366) }
     requires to_first { IsOfCentury seasons.old.to.first }
@@ -191,7 +191,7 @@ fn carried_to<'a, R: Threads + Sync>(
     older: &mut Older<'a>,
     text: &Option<Vec<u8>>,
     newer: &mut Newer<'a>,
-) -> Result<bool, Refusal<'a>>
+) -> Result<bool, Refusal>
     requires from_first { IsOfCentury seasons.old.from.first }
     requires from_days { (1 ≤ seasons.old.from.days) × (seasons.old.from.days ≤ 366) }
     requires to_first { IsOfCentury seasons.old.to.first }
@@ -243,7 +243,7 @@ fn handed<'a>(
     text: &Option<Vec<u8>>,
     newer: &mut Newer<'a>,
     out: &mut Output<'a>,
-) -> Result<(), Refusal<'a>>
+) -> Result<(), Refusal>
     requires imprint { carriage.entry.journal.imprint ≡ imprint_of (front_of carriage.text) }
 {
     let (there, stood) = standing(newer)?;
@@ -299,7 +299,7 @@ fn put<'a>(
     seal_text: &Option<Vec<u8>>,
     newer: &mut Newer<'a>,
     out: &mut Output<'a>,
-) -> Result<(), Refusal<'a>>
+) -> Result<(), Refusal>
     requires known { is_sealed carriage.known ≡ true }
     requires rules { IsTrue (is_seal (two_entries before (IsSealed carriage.entry))) }
     requires fits { is_imprint (mark_of (string_bytes newer.old.name) (marked_text carriage)) ≡ true }
@@ -341,7 +341,7 @@ fn put<'a>(
     }
 }
 
-pub(crate) fn write<'a>(out: &mut Output<'a>, text: &[u8]) -> Result<(), Refusal<'a>> {
+pub(crate) fn write<'a>(out: &mut Output<'a>, text: &[u8]) -> Result<(), Refusal> {
     match put_all(out, text) {
         Ok(()) => Ok(()),
         Err(_) => Err(Refusal::from(DeskFault::Device).noting_output(out)),

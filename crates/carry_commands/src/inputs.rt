@@ -30,7 +30,7 @@ pub(crate) fn seasons_of<'a>(
     from_days: (Day, u16),
     to: &Horizon<'a>,
     to_days: (Day, u16),
-) -> Result<Seasons<'a>, Refusal<'a>>
+) -> Result<Seasons<'a>, Refusal>
     ensures from_first { IfOk result (λ s. s.from.first ≡ from_days.0) }
     ensures from_days { IfOk result (λ s. s.from.days ≡ from_days.1) }
     ensures to_first { IfOk result (λ s. s.to.first ≡ to_days.0) }
@@ -79,12 +79,12 @@ pub(crate) fn made<'a, R: Threads + Sync>(
 }
 
 /// Why nothing is carried, of the file that it is of; or the lines of the legs that have too few seats.
-pub(crate) fn unmade<'a>(
+pub(crate) fn unmade(
     fault: CarryFault,
-    seasons: &Seasons<'a>,
-    journal: &Input<'a>,
-    asked: &CarryJob<'a>,
-) -> Result<Items<u8>, Refusal<'a>> {
+    seasons: &Seasons<'_>,
+    journal: &Input<'_>,
+    asked: &CarryJob<'_>,
+) -> Result<Items<u8>, Refusal> {
     match fault {
         CarryFault::Over(lines) => Ok(lines),
         CarryFault::Season(fault) => Err(of_season(fault, seasons, journal)),
@@ -98,7 +98,7 @@ pub(crate) fn unmade<'a>(
     }
 }
 
-fn of_season<'a>(fault: SeasonFault, seasons: &Seasons<'a>, journal: &Input<'a>) -> Refusal<'a> {
+fn of_season(fault: SeasonFault, seasons: &Seasons<'_>, journal: &Input<'_>) -> Refusal {
     Refusal::from(fault.shown())
         .noting_all(&[&seasons.to.set, &seasons.to.limits])
         .noting_all(&[&seasons.from.set, &seasons.from.limits])
@@ -106,12 +106,12 @@ fn of_season<'a>(fault: SeasonFault, seasons: &Seasons<'a>, journal: &Input<'a>)
 }
 
 /// The same of several journals.
-pub(crate) fn unmade_of<'a>(
+pub(crate) fn unmade_of(
     fault: CarryFault,
-    seasons: &Seasons<'a>,
-    journals: &[Input<'a>],
-    asked: &CarryJob<'a>,
-) -> Result<Items<u8>, Refusal<'a>> {
+    seasons: &Seasons<'_>,
+    journals: &[Input<'_>],
+    asked: &CarryJob<'_>,
+) -> Result<Items<u8>, Refusal> {
     match fault {
         CarryFault::Over(lines) => Ok(lines),
         CarryFault::Season(fault) => Err(

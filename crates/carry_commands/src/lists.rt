@@ -9,10 +9,7 @@ use seat_desk::{DeskFault, MOST_LIMIT_BYTES, read_input};
 use seat_files::{ListKind, Refusal, opened};
 
 /// The locators that keep their seats first, where a file names them.
-pub(crate) fn order_of<'a>(
-    rt: &HostRuntime,
-    name: Option<&'a str>,
-) -> Result<Vec<Locator>, Refusal<'a>> {
+pub(crate) fn order_of(rt: &HostRuntime, name: Option<&str>) -> Result<Vec<Locator>, Refusal> {
     let Some(name) = name else {
         return Ok(Vec::new(rt.alloc()));
     };
@@ -32,10 +29,7 @@ pub(crate) fn order_of<'a>(
 }
 
 /// The text of the rows that say where bookings go, where a file has them.
-pub(crate) fn protections_of<'a>(
-    rt: &HostRuntime,
-    name: Option<&'a str>,
-) -> Result<Vec<u8>, Refusal<'a>>
+pub(crate) fn protections_of(rt: &HostRuntime, name: Option<&str>) -> Result<Vec<u8>, Refusal>
     ensures size { IfOk result (λ bytes. length bytes.items ≤ 16777216) }
 {
     let Some(name) = name else {
@@ -49,7 +43,7 @@ pub(crate) fn protections_of<'a>(
 }
 
 /// The refusal of a row of that file.
-pub(crate) fn of_row<'a>(fault: CourseFault, name: Option<&'a str>) -> Refusal<'a> {
+pub(crate) fn of_row(fault: CourseFault, name: Option<&str>) -> Refusal {
     let kind = match fault.kind {
         CourseKind::Form => ListKind::Protection,
         CourseKind::Source => ListKind::Source,

@@ -26,7 +26,7 @@ pub(crate) fn older_locked<'a>(
     rt: &'a HostRuntime,
     asked: &CarryJob<'a>,
     seasons: &Seasons<'a>,
-) -> Result<(Older<'a>, Option<Vec<u8>>), Refusal<'a>> {
+) -> Result<(Older<'a>, Option<Vec<u8>>), Refusal> {
     let files = files_taken(
         rt,
         &seasons.from,
@@ -45,7 +45,7 @@ pub(crate) fn older_locked<'a>(
 
 /// Refuses a name that a new journal may not have, and what stands there and is no regular file: the opening of a pipe would wait for who
 /// reads it.
-pub(crate) fn newer_named<'a>(rt: &HostRuntime, new: &'a str) -> Result<(), Refusal<'a>> {
+pub(crate) fn newer_named(rt: &HostRuntime, new: &str) -> Result<(), Refusal> {
     let _guard = Guard::new(rt, new)?;
     match fs::metadata(rt, new) {
         Ok(there) if !there.is_file() => Err(Refusal::barred(new, NO_FILE)),
@@ -81,7 +81,7 @@ pub(crate) fn newer_locked<'a>(
     part: Option<Part>,
     seasons: &Seasons<'a>,
     older: &Older<'a>,
-) -> Result<Newer<'a>, Refusal<'a>> {
+) -> Result<Newer<'a>, Refusal> {
     let more = [&seasons.to.set, &seasons.to.limits, &older.journal];
     newer_beside(rt, asked, part, seasons, &[], &more)
 }
@@ -93,7 +93,7 @@ pub(crate) fn newer_among<'a>(
     part: Option<Part>,
     seasons: &Seasons<'a>,
     olders: &[Input<'a>],
-) -> Result<Newer<'a>, Refusal<'a>> {
+) -> Result<Newer<'a>, Refusal> {
     let more = [&seasons.to.set, &seasons.to.limits];
     newer_beside(rt, asked, part, seasons, olders, &more)
 }
@@ -105,7 +105,7 @@ fn newer_beside<'a>(
     seasons: &Seasons<'a>,
     olders: &[Input<'a>],
     more: &[&Input<'a>],
-) -> Result<Newer<'a>, Refusal<'a>> {
+) -> Result<Newer<'a>, Refusal> {
     let guard = Guard::new(rt, asked.new)?;
     guard.pass(&seasons.from, olders, more)?;
     guard.pass_output(rt)?;
@@ -132,11 +132,11 @@ fn newer_beside<'a>(
 }
 
 /// By what a mark names the new journal.
-fn name_of<'a>(
+fn name_of(
     rt: &HostRuntime,
-    journal: &JournalFile<'a>,
+    journal: &JournalFile<'_>,
     part: Option<Part>,
-) -> Result<String, Refusal<'a>> {
+) -> Result<String, Refusal> {
     let Some(path) = journal.path() else {
         return Err(Refusal::barred(journal.name(), NO_FILE));
     };
@@ -148,14 +148,14 @@ fn name_of<'a>(
 }
 
 /// The bytes that stand under the new journal's name, and what stands beside it.
-pub(crate) fn standing<'a>(newer: &Newer<'a>) -> Result<(Vec<u8>, Option<Vec<u8>>), Refusal<'a>> {
+pub(crate) fn standing(newer: &Newer<'_>) -> Result<(Vec<u8>, Option<Vec<u8>>), Refusal> {
     let bytes = newer.journal.bytes()?;
     let text = newer.seal.text()?;
     Ok((bytes, text))
 }
 
 /// Whose failure it was.
-pub(crate) fn failed<'a>(older: &Older<'a>, newer: &Newer<'a>) -> Refusal<'a> {
+pub(crate) fn failed(older: &Older<'_>, newer: &Newer<'_>) -> Refusal {
     Refusal::from(DeskFault::Device)
         .noting_journal(&newer.journal)
         .noting_seal(&newer.seal)

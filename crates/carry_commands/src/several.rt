@@ -63,7 +63,7 @@ pub(crate) fn carried_together<'a, R: Threads + Sync>(
     asked: &CarryJob<'a>,
     asking: &CarryAsked<'_>,
     seasons: &mut Seasons<'a>,
-) -> Result<bool, Refusal<'a>>
+) -> Result<bool, Refusal>
     requires from_first { IsOfCentury seasons.old.from.first }
     requires from_days { (1 ≤ seasons.old.from.days) × (seasons.old.from.days ≤ 366) }
     requires to_first { IsOfCentury seasons.old.to.first }
@@ -89,7 +89,7 @@ fn lock_each<'a>(
     asked: &CarryJob<'a>,
     seasons: &Seasons<'a>,
     olders: &mut Olders<'a>,
-) -> Result<(), Refusal<'a>>
+) -> Result<(), Refusal>
     requires texts { vec_len olders.old.texts ≡ vec_len olders.old.seals }
     requires journals { vec_len olders.old.journals ≡ vec_len olders.old.seals }
     ensures some { OnOk result (1 ≤ vec_len olders.new.seals) }
@@ -112,7 +112,7 @@ fn lock_all<'a>(
     names: &[&'a str],
     seasons: &Seasons<'a>,
     olders: &mut Olders<'a>,
-) -> Result<(), Refusal<'a>>
+) -> Result<(), Refusal>
     ensures seals { OnOk result (vec_len olders.new.seals ≡ vec_len olders.old.seals + length names.now) }
     ensures texts { OnOk result (vec_len olders.new.texts ≡ vec_len olders.old.texts + length names.now) }
     ensures journals { OnOk result (vec_len olders.new.journals ≡ vec_len olders.old.journals + length names.now) }
@@ -136,7 +136,7 @@ fn lock_one<'a>(
     name: &'a str,
     seasons: &Seasons<'a>,
     olders: &mut Olders<'a>,
-) -> Result<(), Refusal<'a>>
+) -> Result<(), Refusal>
     ensures seals { OnOk result (vec_len olders.new.seals ≡ vec_len olders.old.seals + 1) }
     ensures texts { OnOk result (vec_len olders.new.texts ≡ vec_len olders.old.texts + 1) }
     ensures journals { OnOk result (vec_len olders.new.journals ≡ vec_len olders.old.journals + 1) }
@@ -166,7 +166,7 @@ fn open_locked<'a>(
     name: &'a str,
     seasons: &Seasons<'a>,
     journals: &[Input<'a>],
-) -> Result<(SealOut<'a>, Input<'a>), Refusal<'a>> {
+) -> Result<(SealOut<'a>, Input<'a>), Refusal> {
     let more = [&seasons.to.set, &seasons.to.limits];
     let files = files_taken(rt, &seasons.from, journals, &more)?;
     SealOut::open(rt, name, files.as_slice())
@@ -209,7 +209,7 @@ fn carried_locked<'a, R: Threads + Sync>(
     asking: &CarryAsked<'_>,
     seasons: &mut Seasons<'a>,
     olders: &mut Olders<'a>,
-) -> Result<bool, Refusal<'a>>
+) -> Result<bool, Refusal>
     requires from_first { IsOfCentury seasons.old.from.first }
     requires from_days { (1 ≤ seasons.old.from.days) × (seasons.old.from.days ≤ 366) }
     requires to_first { IsOfCentury seasons.old.to.first }
@@ -241,7 +241,7 @@ fn carried_to<'a, R: Threads + Sync>(
     seasons: &mut Seasons<'a>,
     olders: &mut Olders<'a>,
     newer: &mut Newer<'a>,
-) -> Result<bool, Refusal<'a>>
+) -> Result<bool, Refusal>
     requires from_first { IsOfCentury seasons.old.from.first }
     requires from_days { (1 ≤ seasons.old.from.days) × (seasons.old.from.days ≤ 366) }
     requires to_first { IsOfCentury seasons.old.to.first }
@@ -282,7 +282,7 @@ pub(crate) fn tried_together<'a, R: Threads + Sync>(
     asked: &CarryJob<'a>,
     asking: &CarryAsked<'_>,
     seasons: &mut Seasons<'a>,
-) -> Result<bool, Refusal<'a>>
+) -> Result<bool, Refusal>
     requires from_first { IsOfCentury seasons.old.from.first }
     requires from_days { (1 ≤ seasons.old.from.days) × (seasons.old.from.days ≤ 366) }
     requires to_first { IsOfCentury seasons.old.to.first }
@@ -328,7 +328,7 @@ fn open_all<'a>(
     names: &[&'a str],
     journals: &mut Vec<Input<'a>>,
     seals: &mut Vec<SealFile>,
-) -> Result<(), Refusal<'a>>
+) -> Result<(), Refusal>
     ensures journals { OnOk result (vec_len journals.new ≡ vec_len journals.old + length names.now) }
     ensures seals { OnOk result (vec_len seals.new ≡ vec_len seals.old + length names.now) }
 {
@@ -351,7 +351,7 @@ fn open_one<'a>(
     name: &'a str,
     journals: &mut Vec<Input<'a>>,
     seals: &mut Vec<SealFile>,
-) -> Result<(), Refusal<'a>>
+) -> Result<(), Refusal>
     ensures journals { OnOk result (vec_len journals.new ≡ vec_len journals.old + 1) }
     ensures seals { OnOk result (vec_len seals.new ≡ vec_len seals.old + 1) }
 {
@@ -478,7 +478,7 @@ fn handed<'a>(
     olders: &mut Olders<'a>,
     newer: &mut Newer<'a>,
     out: &mut Output<'a>,
-) -> Result<(), Refusal<'a>>
+) -> Result<(), Refusal>
     requires imprint { joined.carriage.entry.journal.imprint ≡ imprint_of (front_of joined.carriage.text) }
     requires seals { length joined.others + 1 ≡ vec_len olders.old.seals }
     requires texts { vec_len olders.old.texts ≡ vec_len olders.old.seals }
@@ -533,16 +533,16 @@ fn handed<'a>(
 
 /// What is done with the mark of each but the last.
 #[tactic(auto, using(crate::proofs::Marked::as_many_judged))]
-fn judged<'a>(
+fn judged(
     rt: &HostRuntime,
-    asked: &CarryJob<'a>,
+    asked: &CarryJob<'_>,
     knowns: &[Sealed],
     name: &str,
     whole: &[u8],
     there: &[u8],
     beside: Option<&[u8]>,
     text: &[u8],
-) -> Result<Judgement, Refusal<'a>>
+) -> Result<Judgement, Refusal>
     ensures { IfOk result (λ hands. length hands.each ≡ length knowns.now) }
 {
     match may_hand_each(
@@ -565,15 +565,15 @@ fn judged<'a>(
 }
 
 /// What is done with that of the last.
-fn judged_last<'a>(
-    asked: &CarryJob<'a>,
+fn judged_last(
+    asked: &CarryJob<'_>,
     known: &Sealed,
     name: &str,
     whole: &[u8],
     there: &[u8],
     beside: Option<&[u8]>,
     text: &[u8],
-) -> Result<Option<Hand>, Refusal<'a>> {
+) -> Result<Option<Hand>, Refusal> {
     match may_hand(known, name, whole, Some(there), beside, text, asked.anew) {
         Ok(hand) => Ok(hand),
         Err(refusal) => {
@@ -594,7 +594,7 @@ fn hand_or_finish(hand: Option<Hand>) -> Hand
 }
 
 /// Why nothing may be written, of the journal of this name or of the new one.
-fn refused<'a>(refusal: HandRefusal, older: &'a str, new: &'a str) -> Refusal<'a>
+fn refused(refusal: HandRefusal, older: &str, new: &str) -> Refusal
     ensures { result.fault ≡ OfCarry (carry_kind refusal) }
 {
     match refusal {
@@ -616,7 +616,7 @@ fn put_together<'a>(
     olders: &mut Olders<'a>,
     newer: &mut Newer<'a>,
     out: &mut Output<'a>,
-) -> Result<(), Refusal<'a>>
+) -> Result<(), Refusal>
     requires known { is_sealed carriage.known ≡ true }
     requires others { list_all is_sealed others ≡ true }
     requires rules { IsTrue (is_seal (two_entries before (IsSealed carriage.entry))) }
@@ -678,7 +678,7 @@ fn put_together<'a>(
 }
 
 /// Whose failure it was.
-fn failed_together<'a>(olders: &Olders<'a>, newer: &Newer<'a>) -> Refusal<'a> {
+fn failed_together(olders: &Olders<'_>, newer: &Newer<'_>) -> Refusal {
     let mut refusal = Refusal::from(DeskFault::Device)
         .noting_journal(&newer.journal)
         .noting_seal(&newer.seal);
@@ -689,12 +689,12 @@ fn failed_together<'a>(olders: &Olders<'a>, newer: &Newer<'a>) -> Refusal<'a> {
 }
 
 /// Why nothing is carried, of the file that it is of; or the lines of the legs that have too few seats.
-fn unjoined<'a>(
+fn unjoined(
     fault: JoinFault,
-    seasons: &Seasons<'a>,
-    journals: &[Input<'a>],
-    asked: &CarryJob<'a>,
-) -> Result<Items<u8>, Refusal<'a>> {
+    seasons: &Seasons<'_>,
+    journals: &[Input<'_>],
+    asked: &CarryJob<'_>,
+) -> Result<Items<u8>, Refusal> {
     match fault {
         JoinFault::Carry(fault) => unmade_of(fault, seasons, journals, asked),
         JoinFault::Beside { place, fault } => {

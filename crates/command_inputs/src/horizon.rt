@@ -14,7 +14,7 @@ pub fn inputs_of<'a>(
     rt: &HostRuntime,
     over: &Horizon<'a>,
     days: (Day, u16),
-) -> Result<Inputs<Input<'a>, Input<'a>>, Refusal<'a>>
+) -> Result<Inputs<Input<'a>, Input<'a>>, Refusal>
     ensures first { IfOk result (λ inputs. inputs.first ≡ days.0) }
     ensures days { IfOk result (λ inputs. inputs.days ≡ days.1) }
 {

@@ -28,7 +28,7 @@ pub fn sort_out_as<'a>(
     rt: &HostRuntime,
     scripts: &mut Vec<Input<'a>>,
     list: &mut Input<'a>,
-) -> Result<(), Refusal<'a>>
+) -> Result<(), Refusal>
     requires few { length scripts.old.items ≤ 8 }
     ensures each { OnOk result (length scripts.new.items ≡ length scripts.old.items) }
     ensures cleaned { OnOk result (AreCleaned scripts.new.items) }
@@ -47,7 +47,7 @@ pub fn sort_out_into<'a>(
     scripts: &mut Vec<Input<'a>>,
     list: &mut ListFile<'a>,
     goes_on: bool,
-) -> Result<(), Refusal<'a>>
+) -> Result<(), Refusal>
     requires few { length scripts.old.items ≤ 8 }
     ensures each { OnOk result (length scripts.new.items ≡ length scripts.old.items) }
     ensures listed { OnOk result (AreListed scripts.new.items (list_held list.new)) }
@@ -65,7 +65,7 @@ fn sort_out_behind<'a>(
     list: &mut ListFile<'a>,
     found: &[u8],
     goes_on: bool,
-) -> Result<(), Refusal<'a>>
+) -> Result<(), Refusal>
     requires few { length scripts.old.items ≤ 8 }
     requires size { length found.now < 2 ^ 31 }
     ensures each { OnOk result (length scripts.new.items ≡ length scripts.old.items) }
@@ -82,7 +82,7 @@ fn sort_out_behind<'a>(
 }
 
 /// What stands in the place of a list, which is a list too, or nothing: nothing else is replaced.
-fn standing_in<'a>(rt: &HostRuntime, list: &ListFile<'a>) -> Result<Vec<u8>, Refusal<'a>>
+fn standing_in(rt: &HostRuntime, list: &ListFile<'_>) -> Result<Vec<u8>, Refusal>
     ensures within { IfOk result (λ found. length found.items < 2 ^ 31) }
     ensures list { IfOk result (λ found. IsTrue (is_list found.items)) }
 {
@@ -109,7 +109,7 @@ pub fn tell_refused(rt: &HostRuntime, list: &ListFile<'_>) {
 fn sort_out_each<'a>(
     rt: &HostRuntime,
     scripts: &mut Vec<Input<'a>>,
-) -> Result<Vec<Vec<u8>>, Refusal<'a>>
+) -> Result<Vec<Vec<u8>>, Refusal>
     requires few { length scripts.old.items ≤ 8 }
     ensures each { OnOk result (length scripts.new.items ≡ length scripts.old.items) }
     ensures sorted { IfOk result (λ sessions. AreSorted scripts.new.items (map (λ rows. rows.items) sessions.items)) }
@@ -132,7 +132,7 @@ fn sort_out_one<'a>(
     rt: &HostRuntime,
     script: &mut Input<'a>,
     session: u8,
-) -> Result<Vec<u8>, Refusal<'a>>
+) -> Result<Vec<u8>, Refusal>
     ensures { IfOk result (λ rows. IsSorted session script.new rows.items) }
 {
     let bytes = match read_input(rt.alloc(), script, MOST_SCRIPT_BYTES) {
@@ -148,7 +148,7 @@ fn sort_out_one<'a>(
     }
 }
 
-fn listed<'a>(rt: &HostRuntime, sessions: &[Vec<u8>]) -> Result<Vec<u8>, Refusal<'a>>
+fn listed(rt: &HostRuntime, sessions: &[Vec<u8>]) -> Result<Vec<u8>, Refusal>
     ensures { IfOk result (λ list. list.items ≡ concat (map (λ rows. rows.items) sessions.now)) }
 {
     match list_of(rt.alloc(), sessions) {
@@ -157,7 +157,7 @@ fn listed<'a>(rt: &HostRuntime, sessions: &[Vec<u8>]) -> Result<Vec<u8>, Refusal
     }
 }
 
-fn list_in<'a>(rt: &HostRuntime, list: &mut Input<'a>) -> Result<Vec<u8>, Refusal<'a>>
+fn list_in<'a>(rt: &HostRuntime, list: &mut Input<'a>) -> Result<Vec<u8>, Refusal>
     ensures whole { IfOk result (λ found. IfSome (input_rest list.old) (λ text. found.items ≡ text)) }
     ensures within { IfOk result (λ found. length found.items < 2 ^ 31) }
 {
@@ -168,12 +168,12 @@ fn list_in<'a>(rt: &HostRuntime, list: &mut Input<'a>) -> Result<Vec<u8>, Refusa
 }
 
 /// Whether a list is that of these sessions.
-fn pass_listed<'a>(
+fn pass_listed(
     rt: &HostRuntime,
-    name: &'a str,
+    name: &str,
     found: &[u8],
     sessions: &[Vec<u8>],
-) -> Result<(), Refusal<'a>>
+) -> Result<(), Refusal>
     requires size { length found.now < 2 ^ 31 }
     ensures same { IsOk result → found.now ≡ concat (map (λ rows. rows.items) sessions.now) }
 {
@@ -182,7 +182,7 @@ fn pass_listed<'a>(
 }
 
 /// Whether a list is these rows.
-fn pass_list<'a>(name: &'a str, found: &[u8], rows: &[u8]) -> Result<(), Refusal<'a>>
+fn pass_list(name: &str, found: &[u8], rows: &[u8]) -> Result<(), Refusal>
     requires size { length found.now < 2 ^ 31 }
     ensures same { IsOk result → found.now ≡ rows.now }
     ensures row { IfErr result (λ refusal. IsSomeAnd (other_row found.now rows.now)
@@ -195,7 +195,7 @@ fn pass_list<'a>(name: &'a str, found: &[u8], rows: &[u8]) -> Result<(), Refusal
 }
 
 /// Whether a list has rows of the sessions alone, those with which each begins, one session after the other.
-fn pass_begun<'a>(name: &'a str, found: &[u8], sessions: &[Vec<u8>]) -> Result<(), Refusal<'a>>
+fn pass_begun(name: &str, found: &[u8], sessions: &[Vec<u8>]) -> Result<(), Refusal>
     requires size { length found.now < 2 ^ 31 }
     ensures none { IsOk result → stray_row found.now (map (λ rows. rows.items) sessions.now) ≡ None }
     ensures row { IfErr result (λ refusal. IsSomeAnd (stray_row found.now (map (λ rows. rows.items) sessions.now))

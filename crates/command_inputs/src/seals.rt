@@ -29,12 +29,12 @@ impl Seals {
 }
 
 /// What stands beside both, once they are open. Beside the journal there may have to be a seal.
-pub fn seals_of<'a>(
+pub fn seals_of(
     rt: &HostRuntime,
-    after: &Input<'a>,
-    journal: &Input<'a>,
+    after: &Input<'_>,
+    journal: &Input<'_>,
     is_sealed: bool,
-) -> Result<Seals, Refusal<'a>> {
+) -> Result<Seals, Refusal> {
     let older = SealFile::beside(rt, after, false)?;
     let journal = SealFile::beside(rt, journal, is_sealed)?;
     Ok(Seals { older, journal })

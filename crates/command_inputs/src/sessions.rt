@@ -10,7 +10,7 @@ pub fn scripts_opened<'a>(
     rt: &HostRuntime,
     words: &[&'a str],
     sessions: usize,
-) -> Result<Vec<Input<'a>>, Refusal<'a>>
+) -> Result<Vec<Input<'a>>, Refusal>
     ensures { IfOk result (λ files. length files.items ≡ sessions) }
 {
     let mut files = Vec::new(rt.alloc());
@@ -23,7 +23,7 @@ pub fn scripts_opened<'a>(
     Ok(files)
 }
 
-fn script_opened<'a>(rt: &HostRuntime, path: Option<&'a str>) -> Result<Input<'a>, Refusal<'a>> {
+fn script_opened<'a>(rt: &HostRuntime, path: Option<&'a str>) -> Result<Input<'a>, Refusal> {
     match path {
         Some(path) => opened(rt, path),
         None => Ok(Input::of_text(b"")),
@@ -31,12 +31,12 @@ fn script_opened<'a>(rt: &HostRuntime, path: Option<&'a str>) -> Result<Input<'a
 }
 
 /// The refusal of a command that reads scripts behind its other inputs, and more behind those.
-pub fn behind<'a>(
-    outcome: Result<(), Refusal<'a>>,
-    scripts: &[Input<'a>],
-    more: &[&Input<'a>],
-    outputs: &[&Output<'a>],
-) -> Result<(), Refusal<'a>> {
+pub fn behind(
+    outcome: Result<(), Refusal>,
+    scripts: &[Input<'_>],
+    more: &[&Input<'_>],
+    outputs: &[&Output<'_>],
+) -> Result<(), Refusal> {
     match outcome {
         Ok(()) => Ok(()),
         Err(refusal) => Err(

@@ -19,10 +19,7 @@ pub enum Clients<F> {
 }
 
 /// Those that the words name; pipes are open.
-pub fn clients_named<'a>(
-    rt: &HostRuntime,
-    asked: &Open<'a, '_>,
-) -> Result<Clients<Fed>, Refusal<'a>> {
+pub fn clients_named(rt: &HostRuntime, asked: &Open<'_, '_>) -> Result<Clients<Fed>, Refusal> {
     if asked.closes_departed && asked.manager.is_none() {
         return Err(Refusal::unfit("--close-departed", "Needs a manager, who gives the days"));
     }
@@ -47,11 +44,11 @@ impl Clients<Fed> {
 }
 
 /// The file of the host's status, where the words name one. It may not be an input or the journal, which is there, nor have anything but a status.
-pub fn status_named<'a>(
+pub fn status_named(
     rt: &HostRuntime,
-    asked: &Open<'a, '_>,
-    inputs: &Inputs<Input<'a>, Input<'a>>,
-) -> Result<Option<StatusFile>, Refusal<'a>> {
+    asked: &Open<'_, '_>,
+    inputs: &Inputs<Input<'_>, Input<'_>>,
+) -> Result<Option<StatusFile>, Refusal> {
     let Some(path) = asked.status else {
         return Ok(None);
     };

@@ -40,7 +40,7 @@ pub struct Stream<R> {
 }
 
 /// The feed, where one is asked for. It stands beside no desk, and has its days in it.
-pub fn feed_asked<'a>(asked: &Open<'a, '_>) -> Result<Option<Fed>, Refusal<'a>> {
+pub fn feed_asked(asked: &Open<'_, '_>) -> Result<Option<Fed>, Refusal> {
     let Some(feed) = asked.feed else {
         return match asked.behind {
             Some(_) => Err(Refusal::from(WordFault::BadBehind)),
@@ -66,7 +66,7 @@ pub fn feed_asked<'a>(asked: &Open<'a, '_>) -> Result<Option<Fed>, Refusal<'a>> 
 }
 
 /// Behind how many lines of the journal it begins.
-fn behind_asked<'a>(asked: &Open<'a, '_>) -> Result<u32, Refusal<'a>> {
+fn behind_asked(asked: &Open<'_, '_>) -> Result<u32, Refusal> {
     let Some(word) = asked.behind else {
         return Ok(0);
     };
@@ -77,13 +77,13 @@ fn behind_asked<'a>(asked: &Open<'a, '_>) -> Result<u32, Refusal<'a>> {
 }
 
 /// The feed over a journal with these bytes, and the day on which its host begins: its first line must be one where the seal knows none.
-pub fn stream_dated<'a, R: Threads + Wait + Copy + Send + 'static>(
+pub fn stream_dated<R: Threads + Wait + Copy + Send + 'static>(
     rt: &HostRuntime,
     waits: &R,
     fed: Fed,
     seal: &Beside<'_>,
     bytes: &[u8],
-) -> Result<(Day, Stream<R>), Refusal<'a>>
+) -> Result<(Day, Stream<R>), Refusal>
     ensures century { IfOk result (λ r. IsCenturyDay r.0) }
     ensures later { IfOk result (λ r. IsNotEarlier seal.now bytes.now r.0) }
 {

@@ -57,10 +57,7 @@ pub struct Shared {
 }
 
 /// The pipes that the words name, open, or none for a desk on standard input and standard output.
-pub fn desks_named<'a>(
-    rt: &HostRuntime,
-    asked: &Open<'a, '_>,
-) -> Result<Option<Pipes>, Refusal<'a>> {
+pub fn desks_named(rt: &HostRuntime, asked: &Open<'_, '_>) -> Result<Option<Pipes>, Refusal> {
     if asked.desks.is_empty() {
         return Err(Refusal::unfit("--desk", "Is missing"));
     }
@@ -75,7 +72,7 @@ pub fn desks_named<'a>(
 }
 
 /// A desk on standard input and standard output has no status beside it.
-fn unstated<'a>(asked: &Open<'a, '_>) -> Result<Option<Pipes>, Refusal<'a>> {
+fn unstated(asked: &Open<'_, '_>) -> Result<Option<Pipes>, Refusal> {
     match asked.status.or(asked.every) {
         Some(word) => Err(Refusal::unsaid(word, "Is for desks on pipes and for feeds alone")),
         None => Ok(None),
@@ -83,13 +80,13 @@ fn unstated<'a>(asked: &Open<'a, '_>) -> Result<Option<Pipes>, Refusal<'a>> {
 }
 
 /// The same where there is a manager.
-fn pipes_named<'a>(
+fn pipes_named(
     rt: &HostRuntime,
-    desks: &[&'a str],
-    manager: &'a str,
+    desks: &[&str],
+    manager: &str,
     every: Duration,
     closes_departed: bool,
-) -> Result<Option<Pipes>, Refusal<'a>> {
+) -> Result<Option<Pipes>, Refusal> {
     let Some(count) = sessions_named(desks) else {
         return Err(misnamed(desks));
     };
@@ -130,7 +127,7 @@ fn sessions_named(desks: &[&str]) -> Option<usize>
 }
 
 /// Which of the words names no session, or one that is named ahead of it, and why.
-fn misnamed<'a>(desks: &[&'a str]) -> Refusal<'a> {
+fn misnamed(desks: &[&str]) -> Refusal {
     if desks.len() > usize::from(MOST_DESKS) {
         return Refusal::unfit("--desk", "Stands more than eight times");
     }
@@ -156,7 +153,7 @@ fn is_named_ahead(ahead: &[&str], word: &str) -> bool {
         .any(|other| sessions_named(&[*other, word]).is_none())
 }
 
-fn of_pipe<'a, T>(word: &'a str, answer: io::Result<T>) -> Result<T, Refusal<'a>> {
+fn of_pipe<T>(word: &str, answer: io::Result<T>) -> Result<T, Refusal> {
     match answer {
         Ok(it) => Ok(it),
         Err(error) => Err(Refusal::unopened(word, &error)),
@@ -170,13 +167,13 @@ fn is_standard(desks: &[&str]) -> bool {
     }
 }
 
-fn add_pair<'a>(
+fn add_pair(
     rt: &HostRuntime,
     pairs: &mut Vec<Pair>,
     taken: &mut Vec<PipeId>,
     session: u8,
-    word: &'a str,
-) -> Result<(), Refusal<'a>> {
+    word: &str,
+) -> Result<(), Refusal> {
     let Some((heard, told)) = pipes_of(word) else {
         return Err(Refusal::unfit(word, "Names no two pipes, as IN:OUT"));
     };
@@ -195,16 +192,16 @@ fn add_pair<'a>(
 }
 
 /// A pipe of the host's own, or why it may be none.
-fn opened<'a>(
+fn opened(
     rt: &HostRuntime,
-    path: &'a str,
+    path: &str,
     role: Role,
     taken: &mut Vec<PipeId>,
-) -> Result<File, Refusal<'a>> {
+) -> Result<File, Refusal> {
     fit(path, open_pipe(rt, path, role, taken))
 }
 
-fn fit<'a, T>(path: &'a str, answer: Result<T, Unopened>) -> Result<T, Refusal<'a>> {
+fn fit<T>(path: &str, answer: Result<T, Unopened>) -> Result<T, Refusal> {
     match answer {
         Ok(it) => Ok(it),
         Err(Unopened::Unfit(fault)) => Err(Refusal::unfit(path, fault.why())),

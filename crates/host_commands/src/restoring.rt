@@ -21,12 +21,12 @@ const TORN_BEFORE: &str = ".torn-";
 
 /// Cuts a journal back to its right lines, ends and seals it, while it is locked. Damage is cut where that is said, and where the seal beside
 /// the journal is of this set, these limits and these days.
-pub fn recover<'a>(
-    rt: &'a HostRuntime,
-    over: &Horizon<'a>,
+pub fn recover(
+    rt: &HostRuntime,
+    over: &Horizon<'_>,
     is_said: bool,
-    journal: &'a str,
-) -> Result<(), Refusal<'a>> {
+    journal: &str,
+) -> Result<(), Refusal> {
     let days = days_of(over.first, over.days)?;
     let mut inputs = match inputs_of(rt, over, days) {
         Ok(inputs) => inputs,
@@ -45,11 +45,11 @@ pub fn recover<'a>(
 }
 
 /// The journal is none of the inputs, nor the file of the answer.
-pub fn pass_guard<'a>(
+pub fn pass_guard(
     rt: &HostRuntime,
-    inputs: &Inputs<Input<'a>, Input<'a>>,
-    journal: &'a str,
-) -> Result<(), Refusal<'a>> {
+    inputs: &Inputs<Input<'_>, Input<'_>>,
+    journal: &str,
+) -> Result<(), Refusal> {
     let guard = Guard::new(rt, journal)?;
     guard.pass(inputs, &[], &[])?;
     guard.pass_output(rt)
@@ -63,7 +63,7 @@ fn recover_locked<'a>(
     journal: &'a str,
     path: &str,
     tape: &mut TapeFile,
-) -> Result<(), Refusal<'a>>
+) -> Result<(), Refusal>
     requires first { IsOfCentury inputs.old.first }
     requires days { (1 ≤ inputs.old.days) × (inputs.old.days ≤ 366) }
 {
@@ -112,7 +112,7 @@ pub fn seal_out<'a>(
     journal: &'a str,
     path: &str,
     inputs: &Inputs<Input<'a>, Input<'a>>,
-) -> Result<SealOut<'a>, Refusal<'a>>
+) -> Result<SealOut<'a>, Refusal>
     ensures refused { IfErr result (λ refusal. IsTrue (is_of_file refusal.fault)) }
 {
     let files = files_taken(rt, inputs, &[], &[])?;
@@ -133,7 +133,7 @@ pub fn as_beside(text: &Option<Vec<u8>>) -> Beside<'_> {
 }
 
 /// Why the journal is not opened.
-pub fn unopened<'a>(journal: &'a str, fault: OpenFault) -> Refusal<'a>
+pub fn unopened(journal: &str, fault: OpenFault) -> Refusal
     ensures { IsTrue (is_of_file result.fault) }
 {
     match fault {
@@ -157,14 +157,14 @@ pub fn tell_kept(rt: &HostRuntime, journal: &str, beside: &BesideFile<'_>) {
 }
 
 /// The fault, of the file that it is of.
-fn refused<'a>(
+fn refused(
     fault: DeskFault,
-    inputs: &Inputs<Input<'a>, Input<'a>>,
-    journal: &'a str,
+    inputs: &Inputs<Input<'_>, Input<'_>>,
+    journal: &str,
     tape: &TapeFile,
     beside: &BesideFile<'_>,
-    out: &Output<'a>,
-) -> Refusal<'a>
+    out: &Output<'_>,
+) -> Refusal
     // A file beside the journal that wants memory is told as that.
     ensures { (result.fault ≡ Fault.Desk fault)
         ⊎ ((fault ≡ DeskFault.Device) × (result.fault ≡ Fault.Desk DeskFault.Memory)) }

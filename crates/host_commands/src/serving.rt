@@ -71,11 +71,11 @@ pub struct Open<'a, 'b> {
 
 /// Goes on with a journal beside its seal, or begins it, answers a desk up to the end of its input, or desks up to the manager's end, and
 /// ends and seals the journal.
-pub fn serve<'a, R: Threads + Wait + Clock + Copy + Send + 'static>(
-    rt: &'a HostRuntime,
+pub fn serve<R: Threads + Wait + Clock + Copy + Send + 'static>(
+    rt: &HostRuntime,
     waits: &R,
-    job: &ServeJob<'a>,
-) -> Result<(), Refusal<'a>> {
+    job: &ServeJob<'_>,
+) -> Result<(), Refusal> {
     let _error = standard_error_held(rt);
     let asked = asked_by(job);
     let days = days_of(job.over.first, job.over.days)?;
@@ -135,7 +135,7 @@ fn inputs_passed<'a>(
     over: &Horizon<'a>,
     days: (Day, u16),
     journal: &'a str,
-) -> Result<(Inputs<Input<'a>, Input<'a>>, Based), Refusal<'a>>
+) -> Result<(Inputs<Input<'a>, Input<'a>>, Based), Refusal>
     requires first { IsOfCentury days.0 }
     requires days { (1 ≤ days.1) × (days.1 ≤ 366) }
     ensures grid { IfOk result (λ r. IsGridOf r.1.loaded.flights r.1.loaded.grid) }
@@ -152,16 +152,16 @@ fn inputs_passed<'a>(
 }
 
 /// The same with the inputs read and the journal locked.
-fn serve_locked<'a, R: Threads + Wait + Clock + Copy + Send + 'static>(
-    rt: &'a HostRuntime,
+fn serve_locked<R: Threads + Wait + Clock + Copy + Send + 'static>(
+    rt: &HostRuntime,
     waits: &R,
-    inputs: &Inputs<Input<'a>, Input<'a>>,
+    inputs: &Inputs<Input<'_>, Input<'_>>,
     based: Based,
     said: Option<Day>,
     clients: Clients<Fed>,
-    journal: &'a str,
+    journal: &str,
     tape: TapeFile,
-) -> Result<(), Refusal<'a>>
+) -> Result<(), Refusal>
     requires grid { IsGridOf based.loaded.flights based.loaded.grid }
     requires said { IfSome said IsCenturyDay }
 {
@@ -212,7 +212,7 @@ fn serve_over<'a, R: Threads + Wait + Clock + Copy + Send + 'static>(
     tape: TapeFile,
     beside: &mut BesideFile<'_>,
     seals: &mut SealOut<'a>,
-) -> Result<(), Refusal<'a>>
+) -> Result<(), Refusal>
     requires grid { IsGridOf based.loaded.flights based.loaded.grid }
     requires said { IfSome said IsCenturyDay }
 {
@@ -237,7 +237,7 @@ fn serve_over<'a, R: Threads + Wait + Clock + Copy + Send + 'static>(
 }
 
 /// The day of the host, and its clients with what they are read from: a feed has its days in it, and else the day is said, or the seal has it.
-fn dated<'a, R: Threads + Wait + Copy + Send + 'static>(
+fn dated<R: Threads + Wait + Copy + Send + 'static>(
     rt: &HostRuntime,
     waits: &R,
     clients: Clients<Fed>,
@@ -245,8 +245,8 @@ fn dated<'a, R: Threads + Wait + Copy + Send + 'static>(
     basis: &Basis,
     bytes: &[u8],
     said: Option<Day>,
-    journal: &'a str,
-) -> Result<(Day, Clients<Stream<R>>), Refusal<'a>>
+    journal: &str,
+) -> Result<(Day, Clients<Stream<R>>), Refusal>
     requires said { IfSome said IsCenturyDay }
     ensures century { IfOk result (λ r. IsCenturyDay r.0) }
     ensures later { IfOk result (λ r. IsNotEarlier seal.now bytes.now r.0) }
@@ -283,7 +283,7 @@ fn serve_read<'a, R: Threads + Wait + Clock + Copy + Send + 'static>(
     tape: TapeFile,
     beside: &mut BesideFile<'_>,
     seals: &mut SealOut<'a>,
-) -> Result<(), Refusal<'a>>
+) -> Result<(), Refusal>
     requires grid { IsGridOf (arc_value season.now).flights grid }
     requires opening { (arc_value season.now).grid ≡ grid }
     requires size { length bytes.items ≤ 268_435_445 }
@@ -484,15 +484,15 @@ fn day_said(today: Option<&str>) -> Result<Option<Day>, WordFault>
 }
 
 /// The feed, and the day of its host, where what stands beside the journal doesn't refuse it: nothing of a feed is read ahead of that.
-fn stream_beside<'a, R: Threads + Wait + Copy + Send + 'static>(
+fn stream_beside<R: Threads + Wait + Copy + Send + 'static>(
     rt: &HostRuntime,
     waits: &R,
     fed: Fed,
     seal: &Beside<'_>,
     basis: &Basis,
     bytes: &[u8],
-    journal: &'a str,
-) -> Result<(Day, Stream<R>), Refusal<'a>>
+    journal: &str,
+) -> Result<(Day, Stream<R>), Refusal>
     ensures century { IfOk result (λ r. IsCenturyDay r.0) }
     ensures later { IfOk result (λ r. IsNotEarlier seal.now bytes.now r.0) }
 {
@@ -503,13 +503,13 @@ fn stream_beside<'a, R: Threads + Wait + Copy + Send + 'static>(
 }
 
 /// The day of the host: the one that is said, or else that of the journal's seal.
-fn day_beside<'a>(
+fn day_beside(
     seal: &Beside<'_>,
     basis: &Basis,
     bytes: &[u8],
     said: Option<Day>,
-    journal: &'a str,
-) -> Result<Day, Refusal<'a>>
+    journal: &str,
+) -> Result<Day, Refusal>
     requires said { IfSome said IsCenturyDay }
     ensures century { IfOk result IsCenturyDay }
     ensures later { IfOk result (IsNotEarlier seal.now bytes.now) }

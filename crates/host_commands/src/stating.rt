@@ -67,7 +67,7 @@ impl Sayer for Status {
 }
 
 /// Refuses a file that has something else than a status of a host: it would be lost. One that is empty or is not there has nothing.
-pub fn pass_status<'a>(rt: &HostRuntime, path: &'a str) -> Result<(), Refusal<'a>> {
+pub fn pass_status(rt: &HostRuntime, path: &str) -> Result<(), Refusal> {
     match has_status_alone(rt, path) {
         Ok(true) => Ok(()),
         Ok(false) => Err(Refusal::unsaid(path, "Is there, and is no status of a host")),
@@ -89,7 +89,7 @@ fn has_status_alone(rt: &HostRuntime, path: &str) -> io::Result<bool> {
 }
 
 /// How often it is said.
-pub fn interval_asked<'a>(every: Option<&'a str>) -> Result<Duration, Refusal<'a>> {
+pub fn interval_asked(every: Option<&str>) -> Result<Duration, Refusal> {
     let seconds = match every {
         None => MINUTE,
         Some(word) => match every_word(word) {

@@ -21,13 +21,13 @@ pub enum Unserved {
 }
 
 /// The refusal that it is.
-pub fn refusal_of<'a>(
+pub fn refusal_of(
     fault: Unserved,
-    journal: &'a str,
+    journal: &str,
     tape: TapeFile,
-    input: &Input<'a>,
-    out: &Output<'a>,
-) -> Refusal<'a> {
+    input: &Input<'_>,
+    out: &Output<'_>,
+) -> Refusal {
     match fault {
         Unserved::Desk(fault) => untalked(fault, journal, tape, input, out),
         Unserved::Feed(fault) => unfed(fault, journal, &tape, out),
@@ -36,7 +36,7 @@ pub fn refusal_of<'a>(
 }
 
 /// Why the journal is not read.
-pub fn unread<'a>(fault: ReadFault, journal: &'a str, tape: &TapeFile) -> Refusal<'a> {
+pub fn unread(fault: ReadFault, journal: &str, tape: &TapeFile) -> Refusal {
     match fault {
         ReadFault::Device => failed(journal, tape),
         ReadFault::TooLarge => Refusal::from(DeskFault::TooLarge).at(journal, None),
@@ -45,11 +45,7 @@ pub fn unread<'a>(fault: ReadFault, journal: &'a str, tape: &TapeFile) -> Refusa
 }
 
 /// Why nothing goes on from the journal.
-pub fn stopped<'a>(
-    refused: (DeskFault, TapeFile),
-    journal: &'a str,
-    beside: &BesideFile<'_>,
-) -> Refusal<'a> {
+pub fn stopped(refused: (DeskFault, TapeFile), journal: &str, beside: &BesideFile<'_>) -> Refusal {
     let (fault, tape) = refused;
     match fault {
         DeskFault::Memory => Refusal::from(fault),
@@ -66,7 +62,7 @@ pub fn stopped<'a>(
 }
 
 /// Why the journal of desks on pipes is not ended and sealed.
-fn unended<'a>(fault: HostedFault, journal: &'a str, tape: &TapeFile) -> Refusal<'a> {
+fn unended(fault: HostedFault, journal: &str, tape: &TapeFile) -> Refusal {
     match fault {
         HostedFault::Day(ServeFault::Device) => failed(journal, tape),
         HostedFault::Day(ServeFault::Memory) => Refusal::from(DeskFault::Memory),
@@ -78,13 +74,13 @@ fn unended<'a>(fault: HostedFault, journal: &'a str, tape: &TapeFile) -> Refusal
 }
 
 /// Why the journal of a desk on standard input is not ended and sealed.
-fn untalked<'a>(
+fn untalked(
     fault: ServedFault,
-    journal: &'a str,
+    journal: &str,
     tape: TapeFile,
-    input: &Input<'a>,
-    out: &Output<'a>,
-) -> Refusal<'a> {
+    input: &Input<'_>,
+    out: &Output<'_>,
+) -> Refusal {
     match fault {
         ServedFault::Day(DayFault::Talk(TalkFault::Input)) => Refusal::unread(input),
         ServedFault::Day(DayFault::Talk(TalkFault::Output)) => {
@@ -102,7 +98,7 @@ fn untalked<'a>(
 }
 
 /// Why the journal of a feed is not ended and sealed.
-fn unfed<'a>(fault: FedFault, journal: &'a str, tape: &TapeFile, out: &Output<'a>) -> Refusal<'a> {
+fn unfed(fault: FedFault, journal: &str, tape: &TapeFile, out: &Output<'_>) -> Refusal {
     match fault {
         FedFault::Behind => Refusal::from(WordFault::BadBehind),
         FedFault::Broken(StreamFault::Strange(line, number)) => {
@@ -127,6 +123,6 @@ fn unfed<'a>(fault: FedFault, journal: &'a str, tape: &TapeFile, out: &Output<'a
 }
 
 /// The journal's file failed.
-fn failed<'a>(journal: &'a str, tape: &TapeFile) -> Refusal<'a> {
+fn failed(journal: &str, tape: &TapeFile) -> Refusal {
     Refusal::from(DeskFault::Device).at(journal, tape.reason())
 }

@@ -23,12 +23,12 @@ const MOST_PARTNER_BYTES: u64 = 65_536;
 
 /// What a partner is told of each segment, or of what changed behind the lines of an older journal. The partner's thresholds are read first, and then
 /// the older journal.
-pub fn avs<'a, R: Threads + Sync>(
+pub fn avs<R: Threads + Sync>(
     rt: &HostRuntime,
     threads: &R,
-    meter: &'a Meter,
-    asked: &AvsJob<'a>,
-) -> Result<(), Refusal<'a>> {
+    meter: &Meter,
+    asked: &AvsJob<'_>,
+) -> Result<(), Refusal> {
     let over = &asked.horizon;
     let days = days_of(over.first, over.days)?;
     let flight = flight_asked(asked.flight)?;
@@ -66,15 +66,15 @@ pub fn avs<'a, R: Threads + Sync>(
 }
 
 /// What changed behind the lines of an older journal.
-fn avs_since<'a, R: Threads + Sync>(
+fn avs_since<R: Threads + Sync>(
     rt: &HostRuntime,
     threads: &R,
-    meter: &'a Meter,
-    asked: &AvsJob<'a>,
+    meter: &Meter,
+    asked: &AvsJob<'_>,
     days: (Day, u16),
     wanted: &Asked<'_>,
-    older: &'a str,
-) -> Result<(), Refusal<'a>>
+    older: &str,
+) -> Result<(), Refusal>
     requires first { IsOfCentury days.0 }
     requires days { (1 ≤ days.1) × (days.1 ≤ 366) }
 {
@@ -107,10 +107,7 @@ fn avs_since<'a, R: Threads + Sync>(
 }
 
 /// The thresholds of the partner, if one is named; else none.
-fn thresholds_of<'a>(
-    rt: &HostRuntime,
-    partner: Option<&'a str>,
-) -> Result<Thresholds, Refusal<'a>> {
+fn thresholds_of(rt: &HostRuntime, partner: Option<&str>) -> Result<Thresholds, Refusal> {
     let Some(name) = partner else {
         return Ok(Thresholds::new(rt.alloc()));
     };
@@ -126,7 +123,7 @@ fn thresholds_of<'a>(
 }
 
 /// The refusal of thresholds. Want of memory says nothing about them.
-fn refusal_of<'a>(fault: PartnerFault) -> Refusal<'a> {
+fn refusal_of(fault: PartnerFault) -> Refusal {
     let line = fault.line;
     match fault.kind {
         PartnerKind::Class => Refusal::of_list(ListKind::Class, line),

@@ -15,12 +15,12 @@ use std::thread::Threads;
 
 /// The changes that bring the limits to those that are wanted, as far as they go; where one falls short, a line on standard error says so. The wanted
 /// limits are read ahead of all else.
-pub fn changes<'a, R: Threads + Sync>(
+pub fn changes<R: Threads + Sync>(
     rt: &HostRuntime,
     threads: &R,
-    meter: &'a Meter,
-    asked: &ChangesJob<'a>,
-) -> Result<(), Refusal<'a>> {
+    meter: &Meter,
+    asked: &ChangesJob<'_>,
+) -> Result<(), Refusal> {
     let over = &asked.over;
     let days = days_of(over.first, over.days)?;
     let legs = LegsAsked {
@@ -58,7 +58,7 @@ pub fn changes<'a, R: Threads + Sync>(
 }
 
 /// The limits that are wanted.
-fn wanted_of<'a>(rt: &HostRuntime, name: &'a str) -> Result<LimitRows, Refusal<'a>> {
+fn wanted_of(rt: &HostRuntime, name: &str) -> Result<LimitRows, Refusal> {
     let mut file = opened(rt, name)?;
     let bytes = match read_input(rt.alloc(), &mut file, MOST_LIMIT_BYTES) {
         Ok(bytes) => bytes,

@@ -20,14 +20,14 @@ use seat_reports::{desk_audit, desk_check, desk_ladder, desk_seal};
 use seat_words::{Horizon, ToldJob, WordFault, line_word, session_word};
 use std::thread::Threads;
 
-pub fn ladder<'a>(rt: &HostRuntime) -> Result<(), Refusal<'a>> {
+pub fn ladder(rt: &HostRuntime) -> Result<(), Refusal> {
     let mut input = standard_input(rt);
     let mut out = standard_output(rt);
     let outcome = desk_ladder(rt.alloc(), &mut input, &mut out);
     told(outcome, &[&input], &[&out])
 }
 
-pub fn check<'a>(rt: &HostRuntime, meter: &'a Meter, set: &'a str) -> Result<(), Refusal<'a>> {
+pub fn check(rt: &HostRuntime, meter: &Meter, set: &str) -> Result<(), Refusal> {
     let mut set = taken(rt, set)?;
     meter_input(rt, meter, &mut set, Lines::Uncounted);
     let mut out = metered_output(rt, meter);
@@ -36,7 +36,7 @@ pub fn check<'a>(rt: &HostRuntime, meter: &'a Meter, set: &'a str) -> Result<(),
 }
 
 /// A season file of a set and its limits, of which the set is read.
-pub fn season<'a>(rt: &HostRuntime, set: &'a str, limits: &str) -> Result<(), Refusal<'a>> {
+pub fn season(rt: &HostRuntime, set: &str, limits: &str) -> Result<(), Refusal> {
     let mut input = opened(rt, set)?;
     let mut out = standard_output(rt);
     let outcome = desk_season(rt.alloc(), &mut input, set, limits, &mut out);
@@ -44,12 +44,12 @@ pub fn season<'a>(rt: &HostRuntime, set: &'a str, limits: &str) -> Result<(), Re
 }
 
 /// What a desk is told of a journal, of its first line or a later one on.
-pub fn told_of<'a, R: Threads + Sync>(
+pub fn told_of<R: Threads + Sync>(
     rt: &HostRuntime,
     threads: &R,
-    meter: &'a Meter,
-    asked: &ToldJob<'a>,
-) -> Result<(), Refusal<'a>> {
+    meter: &Meter,
+    asked: &ToldJob<'_>,
+) -> Result<(), Refusal> {
     let over = &asked.over;
     let days = days_of(over.first, over.days)?;
     let Some(desk) = session_word(asked.desk) else {
@@ -69,15 +69,15 @@ pub fn told_of<'a, R: Threads + Sync>(
     )
 }
 
-pub fn why<'a, R: Threads + Sync>(
+pub fn why<R: Threads + Sync>(
     rt: &HostRuntime,
     threads: &R,
-    meter: &'a Meter,
-    over: &Horizon<'a>,
+    meter: &Meter,
+    over: &Horizon<'_>,
     line: &str,
     is_open: bool,
-    journal: &'a str,
-) -> Result<(), Refusal<'a>> {
+    journal: &str,
+) -> Result<(), Refusal> {
     let days = days_of(over.first, over.days)?;
     let Some(line) = line_word(line) else {
         return Err(Refusal::from(WordFault::BadLine));
@@ -106,15 +106,15 @@ pub struct Looked {
 }
 
 /// The journal alone, without scripts. A long one takes all processors.
-pub fn audit<'a, R: Threads + Sync>(
+pub fn audit<R: Threads + Sync>(
     rt: &HostRuntime,
     threads: &R,
-    meter: &'a Meter,
-    over: &Horizon<'a>,
+    meter: &Meter,
+    over: &Horizon<'_>,
     days: (Day, u16),
-    journal: &'a str,
+    journal: &str,
     looked: Looked,
-) -> Result<(), Refusal<'a>>
+) -> Result<(), Refusal>
     requires first { IsOfCentury days.0 }
     requires days { (1 ≤ days.1) × (days.1 ≤ 366) }
 {
@@ -144,15 +144,15 @@ pub fn audit<'a, R: Threads + Sync>(
     }
 }
 
-fn audited_once<'a, R: Threads + Sync>(
+fn audited_once<R: Threads + Sync>(
     rt: &HostRuntime,
     threads: &R,
-    meter: &'a Meter,
-    over: &Horizon<'a>,
+    meter: &Meter,
+    over: &Horizon<'_>,
     days: &(Day, u16),
-    journal: &'a str,
+    journal: &str,
     looked: Looked,
-) -> Result<Answer<'a>, Refusal<'a>>
+) -> Result<Answer, Refusal>
     requires first { IsOfCentury days.now.0 }
     requires days { (1 ≤ days.now.1) × (days.now.1 ≤ 366) }
 {
@@ -193,7 +193,7 @@ fn texts_opened<'a>(
     days: &(Day, u16),
     journal: Option<&'a str>,
     is_sealed: bool,
-) -> Result<Texts<'a>, Refusal<'a>>
+) -> Result<Texts<'a>, Refusal>
     ensures first { IfOk result (λ texts. texts.inputs.first ≡ days.now.0) }
     ensures days { IfOk result (λ texts. texts.inputs.days ≡ days.now.1) }
 {
@@ -211,14 +211,14 @@ fn texts_opened<'a>(
 }
 
 /// What a question came to over these. A seal that denies an open journal, or one that was replaced since it was opened, may be another's.
-fn answer_of<'a>(
+fn answer_of(
     rt: &HostRuntime,
-    inputs: &Inputs<Input<'a>, Input<'a>>,
-    journal: &Input<'a>,
+    inputs: &Inputs<Input<'_>, Input<'_>>,
+    journal: &Input<'_>,
     outcome: Result<(), DeskFault>,
-    out: &Output<'a>,
+    out: &Output<'_>,
     looked: Looked,
-) -> Answer<'a> {
+) -> Answer {
     match told(outcome, &[&inputs.set, &inputs.limits, journal], &[out]) {
         Ok(()) if looked.is_page && !out.is_used() => Answer {
             outcome: Err(Refusal::from(WordFault::LongPage)),
@@ -237,13 +237,13 @@ fn answer_of<'a>(
 
 /// Writes the seal of a journal that an audit accepts, while the journal is locked. It keeps the runs of a seal that agrees, and tells of a
 /// seal of other bytes that it took the place of.
-pub fn seal<'a, R: Threads + Sync>(
-    rt: &'a HostRuntime,
+pub fn seal<R: Threads + Sync>(
+    rt: &HostRuntime,
     threads: &R,
-    meter: &'a Meter,
-    over: &Horizon<'a>,
-    journal: &'a str,
-) -> Result<(), Refusal<'a>> {
+    meter: &Meter,
+    over: &Horizon<'_>,
+    journal: &str,
+) -> Result<(), Refusal> {
     let days = days_of(over.first, over.days)?;
     let mut inputs = match inputs_of(rt, over, days) {
         Ok(inputs) => inputs,
@@ -280,16 +280,16 @@ pub fn seal<'a, R: Threads + Sync>(
 }
 
 /// The answer to a question about a journal that may be open.
-pub fn asked_of<'a, R: Threads + Sync, Q: Question>(
+pub fn asked_of<R: Threads + Sync, Q: Question>(
     rt: &HostRuntime,
     threads: &R,
-    meter: &'a Meter,
-    over: &Horizon<'a>,
+    meter: &Meter,
+    over: &Horizon<'_>,
     days: (Day, u16),
     question: &Q,
-    journal: Option<&'a str>,
+    journal: Option<&str>,
     is_open: bool,
-) -> Result<(), Refusal<'a>>
+) -> Result<(), Refusal>
     requires first { IsOfCentury days.0 }
     requires days { (1 ≤ days.1) × (days.1 ≤ 366) }
 {
@@ -302,16 +302,16 @@ pub fn asked_of<'a, R: Threads + Sync, Q: Question>(
 }
 
 /// The same of a question whose answer is a page, which is refused where it is too long.
-pub fn page_of<'a, R: Threads + Sync, Q: Question>(
+pub fn page_of<R: Threads + Sync, Q: Question>(
     rt: &HostRuntime,
     threads: &R,
-    meter: &'a Meter,
-    over: &Horizon<'a>,
+    meter: &Meter,
+    over: &Horizon<'_>,
     days: (Day, u16),
     question: &Q,
-    journal: Option<&'a str>,
+    journal: Option<&str>,
     is_open: bool,
-) -> Result<(), Refusal<'a>>
+) -> Result<(), Refusal>
     requires first { IsOfCentury days.0 }
     requires days { (1 ≤ days.1) × (days.1 ≤ 366) }
 {
@@ -323,16 +323,16 @@ pub fn page_of<'a, R: Threads + Sync, Q: Question>(
     looked_at(rt, threads, meter, over, days, question, journal, looked)
 }
 
-fn looked_at<'a, R: Threads + Sync, Q: Question>(
+fn looked_at<R: Threads + Sync, Q: Question>(
     rt: &HostRuntime,
     threads: &R,
-    meter: &'a Meter,
-    over: &Horizon<'a>,
+    meter: &Meter,
+    over: &Horizon<'_>,
     days: (Day, u16),
     question: &Q,
-    journal: Option<&'a str>,
+    journal: Option<&str>,
     looked: Looked,
-) -> Result<(), Refusal<'a>>
+) -> Result<(), Refusal>
     requires first { IsOfCentury days.0 }
     requires days { (1 ≤ days.1) × (days.1 ≤ 366) }
 {
@@ -354,16 +354,16 @@ fn looked_at<'a, R: Threads + Sync, Q: Question>(
 /// The answer to a question about a journal, or about one without lines, with what stands beside it. A journal that a run has replaced
 /// meanwhile is read once more, with its seal, and so is an open one that the seal denies, to which the first line may just have been added: nothing is
 /// written of one that is refused.
-fn answered<'a, R: Threads + Sync, Q: Question>(
+fn answered<R: Threads + Sync, Q: Question>(
     rt: &HostRuntime,
     threads: &R,
-    meter: &'a Meter,
-    over: &Horizon<'a>,
+    meter: &Meter,
+    over: &Horizon<'_>,
     days: (Day, u16),
     question: &Q,
-    journal: Option<&'a str>,
+    journal: Option<&str>,
     looked: Looked,
-) -> Result<(), Refusal<'a>>
+) -> Result<(), Refusal>
     requires first { IsOfCentury days.0 }
     requires days { (1 ≤ days.1) × (days.1 ≤ 366) }
 {
@@ -383,21 +383,21 @@ fn answered<'a, R: Threads + Sync, Q: Question>(
 
 /// What a question came to, and whether its journal was replaced between the reading of the two, so that its seal was another's.
 #[derive(Drop)]
-struct Answer<'a> {
-    outcome: Result<(), Refusal<'a>>,
+struct Answer {
+    outcome: Result<(), Refusal>,
     is_moved: bool,
 }
 
-fn answered_once<'a, R: Threads + Sync, Q: Question>(
+fn answered_once<R: Threads + Sync, Q: Question>(
     rt: &HostRuntime,
     threads: &R,
-    meter: &'a Meter,
-    over: &Horizon<'a>,
+    meter: &Meter,
+    over: &Horizon<'_>,
     days: &(Day, u16),
     question: &Q,
-    journal: Option<&'a str>,
+    journal: Option<&str>,
     looked: Looked,
-) -> Result<Answer<'a>, Refusal<'a>>
+) -> Result<Answer, Refusal>
     requires first { IsOfCentury days.now.0 }
     requires days { (1 ≤ days.now.1) × (days.now.1 ≤ 366) }
 {

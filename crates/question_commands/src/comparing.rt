@@ -14,14 +14,14 @@ use std::thread::Threads;
 
 /// What a new season makes of the flights of an old one, with the seats of a journal over the old one, if one is named. A journal that a run
 /// has replaced meanwhile is read once more, with its seal and both seasons.
-pub fn compare<'a, R: Threads + Sync>(
+pub fn compare<R: Threads + Sync>(
     rt: &HostRuntime,
     threads: &R,
-    meter: &'a Meter,
-    from: &Horizon<'a>,
-    to: &Horizon<'a>,
-    journal: Option<&'a str>,
-) -> Result<(), Refusal<'a>> {
+    meter: &Meter,
+    from: &Horizon<'_>,
+    to: &Horizon<'_>,
+    journal: Option<&str>,
+) -> Result<(), Refusal> {
     let from_days = days_of(from.first, from.days)?;
     let to_days = days_of(to.first, to.days)?;
     let attempt = match compared_once(rt, threads, meter, from, &from_days, to, &to_days, journal) {
@@ -40,21 +40,21 @@ pub fn compare<'a, R: Threads + Sync>(
 
 /// What a comparison came to, and whether its journal was replaced between its opening and the reading of its seal.
 #[derive(Drop)]
-struct Attempt<'a> {
-    outcome: Result<(), Refusal<'a>>,
+struct Attempt {
+    outcome: Result<(), Refusal>,
     is_moved: bool,
 }
 
-fn compared_once<'a, R: Threads + Sync>(
+fn compared_once<R: Threads + Sync>(
     rt: &HostRuntime,
     threads: &R,
-    meter: &'a Meter,
-    from: &Horizon<'a>,
+    meter: &Meter,
+    from: &Horizon<'_>,
     from_days: &(Day, u16),
-    to: &Horizon<'a>,
+    to: &Horizon<'_>,
     to_days: &(Day, u16),
-    journal: Option<&'a str>,
-) -> Result<Attempt<'a>, Refusal<'a>>
+    journal: Option<&str>,
+) -> Result<Attempt, Refusal>
     requires from_first { IsOfCentury from_days.now.0 }
     requires from_days { (1 ≤ from_days.now.1) × (from_days.now.1 ≤ 366) }
     requires to_first { IsOfCentury to_days.now.0 }
@@ -119,14 +119,14 @@ fn compared<'a, R: Threads + Sync>(
 }
 
 /// What it came to, of the file that its fault is of: in the order in which they are read.
-fn attempt_of<'a>(
+fn attempt_of(
     rt: &HostRuntime,
     outcome: Result<(), SeasonFault>,
-    to: &Inputs<Input<'a>, Input<'a>>,
-    from: &Inputs<Input<'a>, Input<'a>>,
-    journal: &Input<'a>,
-    out: &Output<'a>,
-) -> Attempt<'a> {
+    to: &Inputs<Input<'_>, Input<'_>>,
+    from: &Inputs<Input<'_>, Input<'_>>,
+    journal: &Input<'_>,
+    out: &Output<'_>,
+) -> Attempt {
     match outcome {
         Ok(()) => Attempt {
             outcome: Ok(()),

@@ -37,14 +37,14 @@ use table_questions::{
 use table_reports::desk_flight_table;
 
 /// The dated flights of a data set.
-pub fn flights<'a>(
+pub fn flights(
     rt: &HostRuntime,
-    meter: &'a Meter,
-    set: &'a str,
+    meter: &Meter,
+    set: &str,
     first: &str,
     days: &str,
     shape: Shape,
-) -> Result<(), Refusal<'a>> {
+) -> Result<(), Refusal> {
     let (first, days) = days_of(first, days)?;
     let form = form_asked(shape, false)?;
     let mut set = taken(rt, set)?;
@@ -72,12 +72,12 @@ fn flights_put(
 }
 
 /// The rows that are for no leg or hidden, and the legs without one.
-pub fn cover<'a, R: Threads + Sync>(
+pub fn cover<R: Threads + Sync>(
     rt: &HostRuntime,
     threads: &R,
-    meter: &'a Meter,
-    asked: &CoverJob<'a>,
-) -> Result<(), Refusal<'a>> {
+    meter: &Meter,
+    asked: &CoverJob<'_>,
+) -> Result<(), Refusal> {
     let over = &asked.over;
     let days = days_of(over.first, over.days)?;
     let form = form_asked(asked.shape, false)?;
@@ -92,12 +92,12 @@ pub fn cover<'a, R: Threads + Sync>(
 
 /// The rooms of the places that `--day` and `--pair` keep, with bars where they are asked for. Without a journal they are those
 /// after no line.
-pub fn rooms<'a, R: Threads + Sync>(
+pub fn rooms<R: Threads + Sync>(
     rt: &HostRuntime,
     threads: &R,
-    meter: &'a Meter,
-    asked: &RoomsJob<'a>,
-) -> Result<(), Refusal<'a>> {
+    meter: &Meter,
+    asked: &RoomsJob<'_>,
+) -> Result<(), Refusal> {
     let over = &asked.over;
     let days = days_of(over.first, over.days)?;
     let rooms = RoomsOf {
@@ -127,12 +127,12 @@ pub fn rooms<'a, R: Threads + Sync>(
 
 /// How full the legs are that `--flight`, `--day` and `--pair` keep, with bars where they are asked for, as a page, or the sums that `--by` names. Without a journal that is before the first booking.
 /// With `--shards` it is after the lines of all the journals.
-pub fn loads<'a, R: Threads + Sync>(
+pub fn loads<R: Threads + Sync>(
     rt: &HostRuntime,
     threads: &R,
-    meter: &'a Meter,
-    asked: &LoadsJob<'a>,
-) -> Result<(), Refusal<'a>> {
+    meter: &Meter,
+    asked: &LoadsJob<'_>,
+) -> Result<(), Refusal> {
     let over = &asked.over;
     let days = days_of(over.first, over.days)?;
     let loads = LoadsOf {
@@ -197,15 +197,15 @@ fn journals_asked<'a, 'b>(
 }
 
 /// The answer to a question about these.
-fn put<'a, R: Threads + Sync, Q: Question>(
+fn put<R: Threads + Sync, Q: Question>(
     rt: &HostRuntime,
     threads: &R,
-    meter: &'a Meter,
-    over: &Horizon<'a>,
+    meter: &Meter,
+    over: &Horizon<'_>,
     days: (Day, u16),
     question: &Q,
-    journals: Journals<'a, '_>,
-) -> Result<(), Refusal<'a>>
+    journals: Journals<'_, '_>,
+) -> Result<(), Refusal>
     requires first { IsOfCentury days.0 }
     requires days { (1 ≤ days.1) × (days.1 ≤ 366) }
 {
@@ -220,15 +220,15 @@ fn put<'a, R: Threads + Sync, Q: Question>(
 }
 
 /// The same of a question whose answer is a page.
-fn paged<'a, R: Threads + Sync, Q: Question>(
+fn paged<R: Threads + Sync, Q: Question>(
     rt: &HostRuntime,
     threads: &R,
-    meter: &'a Meter,
-    over: &Horizon<'a>,
+    meter: &Meter,
+    over: &Horizon<'_>,
     days: (Day, u16),
     question: &Q,
-    journals: Journals<'a, '_>,
-) -> Result<(), Refusal<'a>>
+    journals: Journals<'_, '_>,
+) -> Result<(), Refusal>
     requires first { IsOfCentury days.0 }
     requires days { (1 ≤ days.1) × (days.1 ≤ 366) }
 {
@@ -243,16 +243,16 @@ fn paged<'a, R: Threads + Sync, Q: Question>(
 }
 
 /// The loads, as text or in a form.
-fn loaded<'a, R: Threads + Sync>(
+fn loaded<R: Threads + Sync>(
     rt: &HostRuntime,
     threads: &R,
-    meter: &'a Meter,
-    over: &Horizon<'a>,
+    meter: &Meter,
+    over: &Horizon<'_>,
     days: (Day, u16),
     loads: LoadsOf,
     form: Option<Form>,
-    journals: Journals<'a, '_>,
-) -> Result<(), Refusal<'a>>
+    journals: Journals<'_, '_>,
+) -> Result<(), Refusal>
     requires first { IsOfCentury days.0 }
     requires days { (1 ≤ days.1) × (days.1 ≤ 366) }
 {
@@ -266,17 +266,17 @@ fn loaded<'a, R: Threads + Sync>(
 }
 
 /// Their sums.
-fn summed<'a, R: Threads + Sync>(
+fn summed<R: Threads + Sync>(
     rt: &HostRuntime,
     threads: &R,
-    meter: &'a Meter,
-    over: &Horizon<'a>,
+    meter: &Meter,
+    over: &Horizon<'_>,
     days: (Day, u16),
     loads: LoadsOf,
     by: By,
     form: Form,
-    journals: Journals<'a, '_>,
-) -> Result<(), Refusal<'a>>
+    journals: Journals<'_, '_>,
+) -> Result<(), Refusal>
     requires first { IsOfCentury days.0 }
     requires days { (1 ≤ days.1) × (days.1 ≤ 366) }
 {
@@ -305,12 +305,12 @@ fn summed<'a, R: Threads + Sync>(
 }
 
 /// The live bookings of the locators, the flights and the day that are asked for.
-pub fn bookings<'a, R: Threads + Sync>(
+pub fn bookings<R: Threads + Sync>(
     rt: &HostRuntime,
     threads: &R,
-    meter: &'a Meter,
-    asked: &BookingsJob<'a>,
-) -> Result<(), Refusal<'a>> {
+    meter: &Meter,
+    asked: &BookingsJob<'_>,
+) -> Result<(), Refusal> {
     let over = &asked.over;
     let days = days_of(over.first, over.days)?;
     let locators = locators_of(rt.alloc(), asked.locators.as_slice())?;
@@ -341,12 +341,12 @@ pub fn bookings<'a, R: Threads + Sync>(
 }
 
 /// Who waits, on the flights and the day that are asked for; with `--shards` of all the journals.
-pub fn waiting<'a, R: Threads + Sync>(
+pub fn waiting<R: Threads + Sync>(
     rt: &HostRuntime,
     threads: &R,
-    meter: &'a Meter,
-    asked: &WaitingJob<'a>,
-) -> Result<(), Refusal<'a>> {
+    meter: &Meter,
+    asked: &WaitingJob<'_>,
+) -> Result<(), Refusal> {
     let over = &asked.over;
     let days = days_of(over.first, over.days)?;
     let wanted = Wanted {
@@ -374,12 +374,12 @@ pub fn waiting<'a, R: Threads + Sync>(
 }
 
 /// What was held, sold, cancelled and confirmed behind the lines of an older journal, which is opened first, or behind so many.
-pub fn pickup<'a, R: Threads + Sync>(
+pub fn pickup<R: Threads + Sync>(
     rt: &HostRuntime,
     threads: &R,
-    meter: &'a Meter,
-    asked: &PickupJob<'a>,
-) -> Result<(), Refusal<'a>> {
+    meter: &Meter,
+    asked: &PickupJob<'_>,
+) -> Result<(), Refusal> {
     let over = &asked.over;
     let days = days_of(over.first, over.days)?;
     let behind = lines_behind(asked.since, asked.behind)?;
@@ -411,15 +411,15 @@ pub fn pickup<'a, R: Threads + Sync>(
 }
 
 /// The same question behind the lines of an older journal.
-fn pickup_since<'a, R: Threads + Sync>(
+fn pickup_since<R: Threads + Sync>(
     rt: &HostRuntime,
     threads: &R,
-    meter: &'a Meter,
-    asked: &PickupJob<'a>,
+    meter: &Meter,
+    asked: &PickupJob<'_>,
     days: (Day, u16),
     question: &PickupOf<'_>,
-    older: &'a str,
-) -> Result<(), Refusal<'a>>
+    older: &str,
+) -> Result<(), Refusal>
     requires first { IsOfCentury days.0 }
     requires days { (1 ≤ days.1) × (days.1 ≤ 366) }
 {
@@ -460,12 +460,12 @@ fn pickup_by(by: Option<&str>) -> Result<PickupBy, WordFault> {
 }
 
 /// What the lines of a journal did for a locator, or on a flight, on the days that are asked for.
-pub fn history<'a, R: Threads + Sync>(
+pub fn history<R: Threads + Sync>(
     rt: &HostRuntime,
     threads: &R,
-    meter: &'a Meter,
-    asked: &HistoryJob<'a>,
-) -> Result<(), Refusal<'a>> {
+    meter: &Meter,
+    asked: &HistoryJob<'_>,
+) -> Result<(), Refusal> {
     let over = &asked.over;
     let days = days_of(over.first, over.days)?;
     let locators = match asked.locator {
@@ -496,7 +496,7 @@ pub fn history<'a, R: Threads + Sync>(
 }
 
 /// The locators that the words name.
-fn locators_of<'a>(alloc: Global, words: &[&str]) -> Result<Vec<Locator>, Refusal<'a>> {
+fn locators_of(alloc: Global, words: &[&str]) -> Result<Vec<Locator>, Refusal> {
     match locators_asked(alloc, words) {
         Ok(locators) => Ok(locators),
         Err(LocatorsFault::Word(fault)) => Err(Refusal::from(fault)),
@@ -505,16 +505,16 @@ fn locators_of<'a>(alloc: Global, words: &[&str]) -> Result<Vec<Locator>, Refusa
 }
 
 /// The answer to a question as a table.
-fn tabled<'a, R: Threads + Sync, T: Table>(
+fn tabled<R: Threads + Sync, T: Table>(
     rt: &HostRuntime,
     threads: &R,
-    meter: &'a Meter,
-    over: &Horizon<'a>,
+    meter: &Meter,
+    over: &Horizon<'_>,
     days: (Day, u16),
     table: &T,
     form: Form,
-    journals: Journals<'a, '_>,
-) -> Result<(), Refusal<'a>>
+    journals: Journals<'_, '_>,
+) -> Result<(), Refusal>
     requires first { IsOfCentury days.0 }
     requires days { (1 ≤ days.1) × (days.1 ≤ 366) }
 {

@@ -16,12 +16,12 @@ use std::cell::Cell;
 use std::thread::Threads;
 
 /// In what the list and the live bookings differ, or those of a session. The list is read ahead of all else. It answers the number of differences.
-pub fn reconcile<'a, R: Threads + Sync>(
+pub fn reconcile<R: Threads + Sync>(
     rt: &HostRuntime,
     threads: &R,
-    meter: &'a Meter,
-    asked: &ReconcileJob<'a>,
-) -> Result<usize, Refusal<'a>> {
+    meter: &Meter,
+    asked: &ReconcileJob<'_>,
+) -> Result<usize, Refusal> {
     let over = &asked.horizon;
     let days = days_of(over.first, over.days)?;
     let session = session_asked(asked.session)?;
@@ -63,7 +63,7 @@ fn session_asked(session: Option<&str>) -> Result<Option<u8>, WordFault> {
 }
 
 /// The lines of the list, whose days are the earliest such on or after the first day.
-fn theirs_of<'a>(rt: &HostRuntime, name: &'a str, first: Day) -> Result<Requests, Refusal<'a>>
+fn theirs_of(rt: &HostRuntime, name: &str, first: Day) -> Result<Requests, Refusal>
     requires first { IsCenturyDay first }
 {
     let mut input = opened(rt, name)?;
@@ -78,7 +78,7 @@ fn theirs_of<'a>(rt: &HostRuntime, name: &'a str, first: Day) -> Result<Requests
 }
 
 /// The refusal of a list. Want of memory says nothing about it.
-fn refusal_of<'a>(fault: PartnerFault) -> Refusal<'a> {
+fn refusal_of(fault: PartnerFault) -> Refusal {
     let line = fault.line;
     match fault.kind {
         PartnerKind::Locator => Refusal::of_list(ListKind::Locator, line),

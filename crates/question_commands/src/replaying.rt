@@ -27,12 +27,12 @@ use seat_words::{
 use std::thread::Threads;
 
 /// Without a script the journal is looked at alone. Scripts need the day of the run, and it needs scripts, as older lines do.
-pub fn audit<'a, R: Threads + Sync>(
+pub fn audit<R: Threads + Sync>(
     rt: &HostRuntime,
     threads: &R,
-    meter: &'a Meter,
-    asked: &AuditJob<'a>,
-) -> Result<(), Refusal<'a>> {
+    meter: &Meter,
+    asked: &AuditJob<'_>,
+) -> Result<(), Refusal> {
     let over = &asked.over;
     let days = days_of(over.first, over.days)?;
     let today = match asked.today {
@@ -84,20 +84,20 @@ struct Replayed<'a, 'b> {
 /// What one attempt at two journals came to, and whether one of them was replaced between its opening and the reading of its
 /// seal, so that the seal was another's.
 #[derive(Drop)]
-struct Attempt<'a> {
-    outcome: Result<(), Refusal<'a>>,
+struct Attempt {
+    outcome: Result<(), Refusal>,
     is_moved: bool,
 }
 
 /// A journal that a run has replaced meanwhile is read once more, with all else: nothing is written where a seal denies it.
-fn audit_against<'a, R: Threads + Sync>(
+fn audit_against<R: Threads + Sync>(
     rt: &HostRuntime,
     threads: &R,
-    meter: &'a Meter,
-    over: &Horizon<'a>,
+    meter: &Meter,
+    over: &Horizon<'_>,
     days: (Day, u16),
-    replayed: &Replayed<'a, '_>,
-) -> Result<(), Refusal<'a>>
+    replayed: &Replayed<'_, '_>,
+) -> Result<(), Refusal>
     requires first { IsOfCentury days.0 }
     requires days { (1 ≤ days.1) × (days.1 ≤ 366) }
     requires today { IsCenturyDay replayed.now.today }
@@ -116,14 +116,14 @@ fn audit_against<'a, R: Threads + Sync>(
     }
 }
 
-fn audited_once<'a, R: Threads + Sync>(
+fn audited_once<R: Threads + Sync>(
     rt: &HostRuntime,
     threads: &R,
-    meter: &'a Meter,
-    over: &Horizon<'a>,
+    meter: &Meter,
+    over: &Horizon<'_>,
     days: &(Day, u16),
-    replayed: &Replayed<'a, '_>,
-) -> Result<Attempt<'a>, Refusal<'a>>
+    replayed: &Replayed<'_, '_>,
+) -> Result<Attempt, Refusal>
     requires first { IsOfCentury days.now.0 }
     requires days { (1 ≤ days.now.1) × (days.now.1 ≤ 366) }
     requires today { IsCenturyDay replayed.now.today }
@@ -182,7 +182,7 @@ fn files_opened<'a>(
     days: &(Day, u16),
     replayed: &Replayed<'a, '_>,
     may_be_changes: bool,
-) -> Result<Files<'a>, Refusal<'a>>
+) -> Result<Files<'a>, Refusal>
     ensures first { IfOk result (λ files. files.inputs.first ≡ days.now.0) }
     ensures days { IfOk result (λ files. files.inputs.days ≡ days.now.1) }
     ensures scripts { IfOk result (λ files.
@@ -213,7 +213,7 @@ fn sort_out_beside<'a>(
     meter: &'a Meter,
     refused: Option<&'a str>,
     scripts: &mut Vec<Input<'a>>,
-) -> Result<(), Refusal<'a>>
+) -> Result<(), Refusal>
     requires few { length scripts.old.items ≤ 8 }
     ensures each { OnOk result (length scripts.new.items ≡ length scripts.old.items) }
     ensures cleaned { OnOk result (IfSome refused.entry (λ name. AreCleaned scripts.new.items)) }
@@ -230,19 +230,19 @@ fn sort_out_beside<'a>(
 fn journals_opened<'a>(
     rt: &HostRuntime,
     replayed: &Replayed<'a, '_>,
-) -> Result<(Input<'a>, Input<'a>), Refusal<'a>> {
+) -> Result<(Input<'a>, Input<'a>), Refusal> {
     let after = opened_or(rt, replayed.after, &NO_LINES)?;
     let journal = taken(rt, replayed.journal)?;
     Ok((after, journal))
 }
 
 /// What a command over these files came to.
-fn attempt_of<'a>(
+fn attempt_of(
     rt: &HostRuntime,
-    files: &Files<'a>,
+    files: &Files<'_>,
     outcome: Result<(), DeskFault>,
-    out: &Output<'a>,
-) -> Attempt<'a> {
+    out: &Output<'_>,
+) -> Attempt {
     let inputs = &files.inputs;
     let ahead = told(
         outcome,
@@ -279,12 +279,12 @@ fn wanted_of(asked: &RepliesJob<'_>) -> Result<Wanted, WordFault> {
 }
 
 /// A run without a script had changes alone.
-pub fn replies<'a, R: Threads + Sync>(
+pub fn replies<R: Threads + Sync>(
     rt: &HostRuntime,
     threads: &R,
-    meter: &'a Meter,
-    asked: &RepliesJob<'a>,
-) -> Result<(), Refusal<'a>> {
+    meter: &Meter,
+    asked: &RepliesJob<'_>,
+) -> Result<(), Refusal> {
     let over = &asked.over;
     let days = days_of(over.first, over.days)?;
     let today = day_of_run(asked.today)?;
@@ -314,16 +314,16 @@ pub fn replies<'a, R: Threads + Sync>(
     }
 }
 
-fn replied_once<'a, R: Threads + Sync>(
+fn replied_once<R: Threads + Sync>(
     rt: &HostRuntime,
     threads: &R,
-    meter: &'a Meter,
-    over: &Horizon<'a>,
+    meter: &Meter,
+    over: &Horizon<'_>,
     days: &(Day, u16),
-    replayed: &Replayed<'a, '_>,
+    replayed: &Replayed<'_, '_>,
     wanted: Wanted,
     form: Option<Form>,
-) -> Result<Attempt<'a>, Refusal<'a>>
+) -> Result<Attempt, Refusal>
     requires first { IsOfCentury days.now.0 }
     requires days { (1 ≤ days.now.1) × (days.now.1 ≤ 366) }
     requires today { IsCenturyDay replayed.now.today }

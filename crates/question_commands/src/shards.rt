@@ -14,12 +14,12 @@ use shard_questions::answer_shards;
 use std::thread::Threads;
 
 /// Audits the journals that are named.
-pub fn audit_shards<'a, R: Threads + Sync>(
+pub fn audit_shards<R: Threads + Sync>(
     rt: &HostRuntime,
     threads: &R,
-    meter: &'a Meter,
-    asked: &AuditJob<'a>,
-) -> Result<(), Refusal<'a>> {
+    meter: &Meter,
+    asked: &AuditJob<'_>,
+) -> Result<(), Refusal> {
     let over = &asked.over;
     let days = days_of(over.first, over.days)?;
     if !is_plain(asked) {
@@ -40,17 +40,17 @@ pub fn audit_shards<'a, R: Threads + Sync>(
 
 /// Answers a question about the journals that are named, as about one of all of them. An answer that is a page is refused where it is
 /// too long.
-pub fn shards_asked<'a, R: Threads + Sync, Q: Question>(
+pub fn shards_asked<R: Threads + Sync, Q: Question>(
     rt: &HostRuntime,
     threads: &R,
-    meter: &'a Meter,
-    over: &Horizon<'a>,
+    meter: &Meter,
+    over: &Horizon<'_>,
     days: (Day, u16),
     question: &Q,
-    first: &'a str,
-    others: &[&'a str],
+    first: &str,
+    others: &[&str],
     is_page: bool,
-) -> Result<(), Refusal<'a>>
+) -> Result<(), Refusal>
     requires first { IsOfCentury days.0 }
     requires days { (1 ≤ days.1) × (days.1 ≤ 366) }
 {
@@ -132,7 +132,7 @@ fn shards_opened<'a>(
     days: (Day, u16),
     first: &'a str,
     others: &[&'a str],
-) -> Result<Shards<'a>, Refusal<'a>>
+) -> Result<Shards<'a>, Refusal>
     ensures first { IfOk result (λ shards. shards.inputs.first ≡ days.0) }
     ensures days { IfOk result (λ shards. shards.inputs.days ≡ days.1) }
 {
@@ -145,12 +145,12 @@ fn shards_opened<'a>(
 }
 
 /// What it came to, of the file that it is of.
-fn noted<'a>(
+fn noted(
     outcome: Result<(), ShardFault>,
-    inputs: &Inputs<Input<'a>, Input<'a>>,
-    journals: &[Input<'a>],
-    outs: &[&Output<'a>],
-) -> Result<(), Refusal<'a>> {
+    inputs: &Inputs<Input<'_>, Input<'_>>,
+    journals: &[Input<'_>],
+    outs: &[&Output<'_>],
+) -> Result<(), Refusal> {
     match outcome {
         Ok(()) => Ok(()),
         Err(fault) => Err(
@@ -177,7 +177,7 @@ fn journals_opened<'a>(
     rt: &HostRuntime,
     first: &'a str,
     others: &[&'a str],
-) -> Result<Vec<Input<'a>>, Refusal<'a>> {
+) -> Result<Vec<Input<'a>>, Refusal> {
     let mut files = Vec::new(rt.alloc());
     push(&mut files, taken(rt, first)?)?;
     for word in others {
@@ -186,7 +186,7 @@ fn journals_opened<'a>(
     Ok(files)
 }
 
-fn push<'a>(files: &mut Vec<Input<'a>>, file: Input<'a>) -> Result<(), Refusal<'a>> {
+fn push<'a>(files: &mut Vec<Input<'a>>, file: Input<'a>) -> Result<(), Refusal> {
     match files.push(file) {
         Ok(()) => Ok(()),
         Err(_) => Err(Refusal::from(DeskFault::Memory)),

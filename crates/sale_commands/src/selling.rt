@@ -32,12 +32,12 @@ use std::thread::Threads;
 /// OUT, the file of the journal, is looked at, locked and made where it is not there, once each input is open and before the first is
 /// read. Without an older journal the run goes on from no line, and without a file of changes there are none. Without changes it needs
 /// a script. How many lines a journal began with is asked only where the run goes on with its scripts.
-pub fn run<'a, T: Threads + Wait + Sync>(
-    rt: &'a HostRuntime,
+pub fn run<T: Threads + Wait + Sync>(
+    rt: &HostRuntime,
     threads: &T,
-    meter: &'a Meter,
-    asking: &RunJob<'a>,
-) -> Result<(), Refusal<'a>> {
+    meter: &Meter,
+    asking: &RunJob<'_>,
+) -> Result<(), Refusal> {
     let over = &asking.over;
     let days = days_of(over.first, over.days)?;
     let today = day_of_run(asking.today)?;
@@ -77,7 +77,7 @@ fn run_over<'a, T: Threads + Wait + Sync>(
     sale: &Sale<'a, '_>,
     texts: &mut Texts<'a>,
     past: &mut Past<'a>,
-) -> Result<(), Refusal<'a>>
+) -> Result<(), Refusal>
     requires first { IsOfCentury texts.old.inputs.first }
     requires days { (1 ≤ texts.old.inputs.days) × (texts.old.inputs.days ≤ 366) }
     requires today { IsCenturyDay sale.now.today }
@@ -102,7 +102,7 @@ fn sell_sorted<'a, T: Threads + Wait + Sync>(
     texts: &mut Texts<'a>,
     past: &mut Past<'a>,
     place: &mut Place<'a>,
-) -> Result<(), Refusal<'a>>
+) -> Result<(), Refusal>
     requires first { IsOfCentury texts.old.inputs.first }
     requires days { (1 ≤ texts.old.inputs.days) × (texts.old.inputs.days ≤ 366) }
     requires today { IsCenturyDay sale.now.today }
@@ -120,7 +120,7 @@ fn begin_list<'a>(
     texts: &mut Texts<'a>,
     past: &Past<'a>,
     place: &mut Place<'a>,
-) -> Result<(), Refusal<'a>>
+) -> Result<(), Refusal>
     requires few { length texts.old.scripts.items ≤ 8 }
     ensures first { texts.new.inputs.first ≡ texts.old.inputs.first }
     ensures days { texts.new.inputs.days ≡ texts.old.inputs.days }
@@ -181,14 +181,14 @@ struct Past<'a> {
     resumed: Input<'a>,
 }
 
-fn past_opened<'a>(rt: &HostRuntime, asking: &RunJob<'a>) -> Result<Past<'a>, Refusal<'a>> {
+fn past_opened<'a>(rt: &HostRuntime, asking: &RunJob<'a>) -> Result<Past<'a>, Refusal> {
     let after = opened_or(rt, asking.after, &NO_LINES)?;
     let resumed = opened_or(rt, asking.resume, &NO_LINES)?;
     Ok(Past { after, resumed })
 }
 
 /// Whether the older journal is the very file whose scripts have grown: there would be no line of theirs.
-fn is_one_journal<'a>(past: &Past<'a>) -> Result<bool, Refusal<'a>> {
+fn is_one_journal(past: &Past<'_>) -> Result<bool, Refusal> {
     let Some(resumed) = past.resumed.metadata()? else {
         return Ok(false);
     };
@@ -205,7 +205,7 @@ fn locked_out<'a>(
     asking: &RunJob<'a>,
     texts: &Texts<'a>,
     past: &Past<'a>,
-) -> Result<Place<'a>, Refusal<'a>> {
+) -> Result<Place<'a>, Refusal> {
     let scripts = texts.scripts.as_slice();
     let guard = Guard::new(rt, asking.journal)?;
     guard.pass(&texts.inputs, scripts, &[&texts.changes])?;
@@ -238,7 +238,7 @@ fn sell<'a, T: Threads + Wait + Sync>(
     texts: &mut Texts<'a>,
     past: &mut Past<'a>,
     place: &mut Place<'a>,
-) -> Result<(), Refusal<'a>>
+) -> Result<(), Refusal>
     requires first { IsOfCentury texts.old.inputs.first }
     requires days { (1 ≤ texts.old.inputs.days) × (texts.old.inputs.days ≤ 366) }
     requires today { IsCenturyDay sale.now.today }
@@ -275,7 +275,7 @@ fn sell_beside<'a, T: Threads + Wait + Sync>(
     seals: &Seals,
     older: SealEntry,
     place: &mut Place<'a>,
-) -> Result<(), Refusal<'a>>
+) -> Result<(), Refusal>
     requires first { IsOfCentury texts.old.inputs.first }
     requires days { (1 ≤ texts.old.inputs.days) × (texts.old.inputs.days ≤ 366) }
     requires today { IsCenturyDay sale.now.today }
@@ -309,11 +309,7 @@ struct Sale<'a, 'b> {
 }
 
 /// What the command came to, of whichever input it is refused for.
-fn sold<'a>(
-    outcome: Result<(), DeskFault>,
-    texts: &Texts<'a>,
-    past: &Past<'a>,
-) -> Result<(), Refusal<'a>> {
+fn sold(outcome: Result<(), DeskFault>, texts: &Texts<'_>, past: &Past<'_>) -> Result<(), Refusal> {
     let inputs = &texts.inputs;
     let ahead = told(
         outcome,
@@ -324,13 +320,13 @@ fn sold<'a>(
 }
 
 /// Says what may not be meant so, of a run that booked all.
-fn tell_sold<'a>(
+fn tell_sold(
     rt: &HostRuntime,
-    sale: &Sale<'a, '_>,
-    texts: &Texts<'a>,
+    sale: &Sale<'_, '_>,
+    texts: &Texts<'_>,
     seals: &Seals,
-    place: &Place<'a>,
-    out: &Heard<'a>,
+    place: &Place<'_>,
+    out: &Heard<'_>,
 ) {
     let mut has_refused = false;
     if let Some(list) = place.journal.list() {
@@ -347,13 +343,13 @@ fn tell_sold<'a>(
 fn unsold<'a>(
     rt: &HostRuntime,
     sale: &Sale<'a, '_>,
-    refusal: Refusal<'a>,
+    refusal: Refusal,
     texts: &Texts<'a>,
     past: &Past<'a>,
     seals: &Seals,
     place: &mut Place<'a>,
     out: &Heard<'a>,
-) -> Result<(), Refusal<'a>> {
+) -> Result<(), Refusal> {
     let lines = lines_ahead(rt, sale.asking, sale.given, &past.after, place);
     let seal = seals.gone_on_from(sale.asking.resume.is_some());
     let refusal = refusal
@@ -490,7 +486,7 @@ fn meter_texts<'a>(rt: &HostRuntime, meter: &'a Meter, texts: &mut Texts<'a>)
 }
 
 /// What the seal beside OUT has of the journal there, or else which bytes OUT has.
-fn older_in<'a>(place: &Place<'a>) -> Result<SealEntry, Refusal<'a>> {
+fn older_in(place: &Place<'_>) -> Result<SealEntry, Refusal> {
     let bytes = place.journal.bytes()?;
     let seal = match place.seal.text()? {
         Some(text) => read_seal(&text),
@@ -504,7 +500,7 @@ fn keeps_both<'a>(
     rt: &HostRuntime,
     past: &Past<'a>,
     place: &mut Place<'a>,
-) -> Result<bool, Refusal<'a>> {
+) -> Result<bool, Refusal> {
     let journal = &place.journal;
     if is_gone_on_from(&past.after, journal)? || is_gone_on_from(&past.resumed, journal)? {
         return Ok(false);
@@ -521,10 +517,10 @@ fn keeps_both<'a>(
 fn noting_place<'a>(
     rt: &HostRuntime,
     asking: &RunJob<'a>,
-    refusal: Refusal<'a>,
+    refusal: Refusal,
     past: &Past<'a>,
     place: &mut Place<'a>,
-) -> Result<(), Refusal<'a>> {
+) -> Result<(), Refusal> {
     if !place.journal.is_put() {
         return Err(refusal);
     }
@@ -577,7 +573,7 @@ fn lines_of<'a>(
     path: Option<&str>,
     input: &Input<'a>,
     journal: &mut JournalFile<'a>,
-) -> Result<u64, Refusal<'a>> {
+) -> Result<u64, Refusal> {
     let Some(path) = path else {
         return Ok(0);
     };
@@ -595,7 +591,7 @@ fn open_past_again<'a>(
     rt: &HostRuntime,
     asking: &RunJob<'a>,
     past: &mut Past<'a>,
-) -> Result<(), Refusal<'a>> {
+) -> Result<(), Refusal> {
     if is_regular(&past.after)? {
         past.after = opened_or(rt, asking.after, &NO_LINES)?;
     }
@@ -605,7 +601,7 @@ fn open_past_again<'a>(
     Ok(())
 }
 
-fn is_regular<'a>(input: &Input<'a>) -> Result<bool, Refusal<'a>> {
+fn is_regular(input: &Input<'_>) -> Result<bool, Refusal> {
     match input.metadata()? {
         Some(file) => Ok(file.is_file()),
         None => Ok(false),
@@ -613,7 +609,7 @@ fn is_regular<'a>(input: &Input<'a>) -> Result<bool, Refusal<'a>> {
 }
 
 /// Whether the older journal is the very file that the new one is put into.
-fn is_gone_on_from<'a>(after: &Input<'a>, journal: &JournalFile<'a>) -> Result<bool, Refusal<'a>> {
+fn is_gone_on_from(after: &Input<'_>, journal: &JournalFile<'_>) -> Result<bool, Refusal> {
     let Some(out) = journal.metadata()? else {
         return Ok(false);
     };

@@ -15,7 +15,7 @@ use seat_seal::{
 /// The most bytes of a script or of changes that are read once more.
 const MOST_BYTES: u64 = 16_777_216;
 
-impl<'a> Refusal<'a> {
+impl Refusal {
     /// Names the script that begins with what a run has booked, or the changes, where it is a regular file. The run is one of the seal that began
     /// ahead of so many lines.
     pub fn noting_booked(
@@ -23,9 +23,9 @@ impl<'a> Refusal<'a> {
         rt: &HostRuntime,
         seal: &SealFile,
         lines: u64,
-        scripts: &[Input<'a>],
-        changes: &Input<'a>,
-    ) -> Refusal<'a>
+        scripts: &[Input<'_>],
+        changes: &Input<'_>,
+    ) -> Refusal
         ensures { result.fault ≡ self.entry.fault }
     {
         match self.fault {

@@ -142,9 +142,9 @@ impl From<AllocError> for FileFault {
     }
 }
 
-impl<'a> Refusal<'a> {
+impl Refusal {
     /// The same of the file of this name.
-    pub(crate) fn failed(name: &'a str, failure: Failure) -> Refusal<'a>
+    pub(crate) fn failed(name: &str, failure: Failure) -> Refusal
         ensures value { result.fault ≡ failure_fault failure }
         ensures failure { IsTrue (is_failure result.fault) }
     {
@@ -159,7 +159,7 @@ impl<'a> Refusal<'a> {
 
     /// The file of this name fails, or may not be the journal's.
     #[tactic(auto, using(crate::proofs::Refused::of_failure))]
-    pub(crate) fn of_file(name: &'a str, fault: FileFault) -> Refusal<'a>
+    pub(crate) fn of_file(name: &str, fault: FileFault) -> Refusal
         ensures value { result.fault ≡ file_fault fault }
         ensures file { IsTrue (is_of_file result.fault) }
     {

@@ -22,7 +22,7 @@ pub struct Guard<'a> {
 impl<'a> Guard<'a> {
     /// Looks at the file. Only a regular one is looked at: a pipe or a device may be written to at any time. A name that a journal may
     /// not have is refused.
-    pub fn new(rt: &HostRuntime, path: &'a str) -> Result<Guard<'a>, Refusal<'a>>
+    pub fn new(rt: &HostRuntime, path: &'a str) -> Result<Guard<'a>, Refusal>
         ensures refused { IfErr result (λ refusal. IsTrue (is_of_file refusal.fault)) }
     {
         match there_at(rt, path) {
@@ -37,7 +37,7 @@ impl<'a> Guard<'a> {
         inputs: &Inputs<Input<'a>, Input<'a>>,
         scripts: &[Input<'a>],
         more: &[&Input<'a>],
-    ) -> Result<(), Refusal<'a>>
+    ) -> Result<(), Refusal>
         ensures refused { IfErr result (λ refusal. IsTrue (is_of_file refusal.fault)) }
     {
         if let Err(fault) = self.pass_one(&inputs.set) {
@@ -61,7 +61,7 @@ impl<'a> Guard<'a> {
 
     /// Refuses the file that standard output goes to, since the replies would be written over the journal, and that of standard error, whose
     /// notes would stand among its lines. Where the first can't be looked at, it may be this file.
-    pub fn pass_output(&self, rt: &HostRuntime) -> Result<(), Refusal<'a>>
+    pub fn pass_output(&self, rt: &HostRuntime) -> Result<(), Refusal>
         ensures refused { IfErr result (λ refusal. IsTrue (is_of_file refusal.fault)) }
     {
         match self.pass_standard(rt) {
@@ -81,7 +81,7 @@ impl<'a> Guard<'a> {
     }
 
     /// Refuses a file that is there and not empty.
-    pub fn keep(&self) -> Result<(), Refusal<'a>>
+    pub fn keep(&self) -> Result<(), Refusal>
         ensures refused { IfErr result (λ refusal. IsTrue (is_of_file refusal.fault)) }
     {
         match &self.there {
@@ -107,7 +107,7 @@ impl<'a> Guard<'a> {
 
     /// An input that fails is refused under its own name.
     #[tactic(auto, using(crate::proofs::Refused::of_failure))]
-    fn refused(&self, input: &Input<'a>, fault: FileFault) -> Refusal<'a>
+    fn refused(&self, input: &Input<'a>, fault: FileFault) -> Refusal
         ensures value { result.fault ≡ file_fault fault }
         ensures file { IsTrue (is_of_file result.fault) }
     {
@@ -143,12 +143,12 @@ pub fn pass_error(rt: &HostRuntime, there: &Metadata) -> Result<(), FileFault> {
 }
 
 /// The files of all inputs and of standard output, as far as they have one.
-pub fn files_taken<'b>(
+pub fn files_taken(
     rt: &HostRuntime,
-    inputs: &Inputs<Input<'b>, Input<'b>>,
-    scripts: &[Input<'b>],
-    more: &[&Input<'b>],
-) -> Result<Vec<Metadata>, Refusal<'b>>
+    inputs: &Inputs<Input<'_>, Input<'_>>,
+    scripts: &[Input<'_>],
+    more: &[&Input<'_>],
+) -> Result<Vec<Metadata>, Refusal>
     ensures refused { IfErr result (λ refusal. IsTrue (is_failure refusal.fault)) }
 {
     let mut files = Vec::new(rt.alloc());

@@ -21,11 +21,11 @@ pub(crate) struct FileId {
 
 /// Refuses a regular file that has bytes and is two of the scripts, or a script and the changes, by whatever names.
 #[tactic(auto, using(crate::proofs::Refused::scripts_of_failure))]
-pub fn pass_once<'b>(
+pub fn pass_once(
     rt: &HostRuntime,
-    scripts: &[Input<'b>],
-    changes: &Input<'b>,
-) -> Result<(), Refusal<'b>>
+    scripts: &[Input<'_>],
+    changes: &Input<'_>,
+) -> Result<(), Refusal>
     ensures refused { IfErr result (λ refusal. IsTrue (is_of_scripts refusal.fault)) }
 {
     let mut files = Vec::new(rt.alloc());

@@ -8,6 +8,7 @@ use crate::fault::{CarryKind, Fault, ListKind};
 use crate::journal_file::{JournalFile, is_link};
 use crate::seal_out::SealOut;
 use crate::streams::{Input, Output};
+use crate::told::{ToldName, ToldWords};
 use airline_base::Failures;
 use seat_desk::DeskFault;
 use seat_seal::SealFault;
@@ -25,41 +26,43 @@ const NOT_OPEN: i32 = 9;
 
 /// A fault, with the name of its file where that is known, and the system's number for a failure.
 #[derive(Clone, Copy)]
-pub struct Refusal<'a> {
+pub struct Refusal {
     pub fault: Fault,
-    file: Option<&'a str>,
+    file: Option<ToldName>,
     /// What the name of the very file ends with behind that, where it is one that stands beside it.
     ending: Ending,
     reason: Option<i32>,
     /// Why the file may not be what it is named for.
-    why: Option<&'static str>,
+    why: Option<ToldWords>,
     /// The file begins with a byte order mark.
     has_mark: bool,
     /// Whoever read standard output has gone away, or standard error goes to the file itself, and nothing is told.
     is_unheard: bool,
     /// The journal of a run whose replies failed.
-    put: Option<Put<'a>>,
+    put: Option<Put>,
     /// The key that no season has, where the fault is of one.
-    key: Option<&'a str>,
+    key: Option<ToldWords>,
 }
 
 /// What the name of a file beside another ends with: a word, and behind it a number where it has one.
 #[derive(Clone, Copy)]
 struct Ending {
-    word: &'static str,
+    word: ToldWords,
     number: Option<u32>,
 }
 
 impl Ending {
-    const NONE: Ending = Ending {
-        word: "",
-        number: None,
-    };
+    fn of(word: &str) -> Ending {
+        Ending {
+            word: ToldWords::of(word),
+            number: None,
+        }
+    }
 }
 
 impl fmt::Display for Ending {
     fn fmt<W: fmt::Write>(&self, f: &mut fmt::Formatter<W>) -> fmt::Result {
-        f.write_str(self.word)?;
+        f.write_str(self.word.as_str())?;
         match self.number {
             Some(number) => write!(f, "{number}"),
             None => Ok(()),
@@ -69,13 +72,13 @@ impl fmt::Display for Ending {
 
 /// A file that has a run's journal: behind how many lines its scripts stand, and how many it had of them ahead of the new ones.
 #[derive(Clone, Copy)]
-struct Put<'a> {
-    file: &'a str,
+struct Put {
+    file: ToldName,
     behind: u64,
     resumed: u64,
 }
 
-impl fmt::Display for Put<'_> {
+impl fmt::Display for Put {
     /// The options of `replies` with which it writes what the run would have written.
     fn fmt<W: fmt::Write>(&self, f: &mut fmt::Formatter<W>) -> fmt::Result {
         if self.behind > 0 {
@@ -88,14 +91,14 @@ impl fmt::Display for Put<'_> {
     }
 }
 
-impl<'a> Refusal<'a> {
-    fn of(fault: Fault) -> Refusal<'a>
+impl Refusal {
+    fn of(fault: Fault) -> Refusal
         ensures { result.fault ≡ fault }
     {
         Refusal {
             fault,
             file: None,
-            ending: Ending::NONE,
+            ending: Ending::of(""),
             reason: None,
             why: None,
             has_mark: false,
@@ -106,16 +109,16 @@ impl<'a> Refusal<'a> {
     }
 
     /// A file that is no season, and the key that no season has, where that is why.
-    pub fn of_season(file: &'a str, kind: SeasonKind, key: Option<&'a str>) -> Refusal<'a>
+    pub fn of_season(file: &str, kind: SeasonKind, key: Option<&str>) -> Refusal
         ensures { result.fault ≡ Fault.Season kind }
     {
         let mut refusal = Refusal::of(Fault::Season(kind)).at(file, None);
-        refusal.key = key;
+        refusal.key = key.map(ToldWords::of);
         refusal
     }
 
     /// A line of a partner's list, of its thresholds or of a list of a carry that is none, or a row of a list of refused lines that is another.
-    pub fn of_list(kind: ListKind, line: u32) -> Refusal<'a>
+    pub fn of_list(kind: ListKind, line: u32) -> Refusal
         ensures text { printed result.fault ≡ list_text kind line }
         ensures status { exit_status result.fault ≡ 1 }
     {
@@ -123,19 +126,19 @@ impl<'a> Refusal<'a> {
     }
 
     /// Bookings are not carried to the journal of this name.
-    pub fn of_carry(kind: CarryKind, journal: &'a str) -> Refusal<'a>
+    pub fn of_carry(kind: CarryKind, journal: &str) -> Refusal
         ensures { result.fault ≡ Fault.Carry kind }
     {
         Refusal::of(Fault::Carry(kind)).at(journal, None)
     }
 
     /// What stands behind the fault in its line.
-    pub fn behind(&self) -> Behind<'a> {
+    pub fn behind(&self) -> Behind {
         Behind { key: self.key }
     }
 
     /// The fault of a file that does not open.
-    pub fn unopened(path: &'a str, error: &io::Error) -> Refusal<'a>
+    pub fn unopened(path: &str, error: &io::Error) -> Refusal
         ensures { IsTrue (is_failure result.fault) }
     {
         if error.kind() == io::ErrorKind::OutOfMemory {
@@ -145,54 +148,54 @@ impl<'a> Refusal<'a> {
     }
 
     /// A feed that is not that of this journal: its line, and the line of the journal that it differs from.
-    pub fn strange(journal: &'a str, line: u32, number: u32) -> Refusal<'a>
+    pub fn strange(journal: &str, line: u32, number: u32) -> Refusal
         ensures { result.fault ≡ Fault.Feed line number }
     {
         Refusal::of(Fault::Feed { line, number }).at(journal, None)
     }
 
     /// A file that may not be the journal's, and why.
-    pub fn barred(file: &'a str, why: &'static str) -> Refusal<'a>
+    pub fn barred(file: &str, why: &str) -> Refusal
         ensures { result.fault ≡ Fault.Word WordFault.BadJournal }
     {
         let mut refusal = Refusal::from(WordFault::BadJournal);
-        refusal.file = Some(file);
-        refusal.why = Some(why);
+        refusal.file = Some(ToldName::of(file));
+        refusal.why = Some(ToldWords::of(why));
         refusal
     }
 
     /// A file that may not be a script, and why.
-    pub fn doubled(file: &'a str, why: &'static str) -> Refusal<'a>
+    pub fn doubled(file: &str, why: &str) -> Refusal
         ensures { result.fault ≡ Fault.Word WordFault.BadScripts }
     {
         let mut refusal = Refusal::from(WordFault::BadScripts);
-        refusal.file = Some(file);
-        refusal.why = Some(why);
+        refusal.file = Some(ToldName::of(file));
+        refusal.why = Some(ToldWords::of(why));
         refusal
     }
 
     /// A file that may not be a pipe of a desk, and why.
-    pub fn unfit(file: &'a str, why: &'static str) -> Refusal<'a>
+    pub fn unfit(file: &str, why: &str) -> Refusal
         ensures { result.fault ≡ Fault.Word WordFault.BadDesk }
     {
         let mut refusal = Refusal::from(WordFault::BadDesk);
-        refusal.file = Some(file);
-        refusal.why = Some(why);
+        refusal.file = Some(ToldName::of(file));
+        refusal.why = Some(ToldWords::of(why));
         refusal
     }
 
     /// What may not be said as the status of a host is, and why.
-    pub fn unsaid(word: &'a str, why: &'static str) -> Refusal<'a>
+    pub fn unsaid(word: &str, why: &str) -> Refusal
         ensures { result.fault ≡ Fault.Word WordFault.BadStatus }
     {
         let mut refusal = Refusal::from(WordFault::BadStatus);
-        refusal.file = Some(word);
-        refusal.why = Some(why);
+        refusal.file = Some(ToldName::of(word));
+        refusal.why = Some(ToldWords::of(why));
         refusal
     }
 
     /// The same, for the same reason, of what may not be a journal's either.
-    pub fn as_unsaid(self) -> Refusal<'a>
+    pub fn as_unsaid(self) -> Refusal
         ensures { result.fault ≡ Fault.Word WordFault.BadStatus }
     {
         let mut refusal = self;
@@ -201,7 +204,7 @@ impl<'a> Refusal<'a> {
     }
 
     /// The same, for the same reason, of what may not be the file of the refused lines as it may not be a journal's.
-    pub fn as_unlisted(self) -> Refusal<'a>
+    pub fn as_unlisted(self) -> Refusal
         ensures { result.fault ≡ unlisted self.entry.fault }
     {
         let mut refusal = self;
@@ -217,29 +220,25 @@ impl<'a> Refusal<'a> {
     }
 
     /// The same of the file beside it whose name ends so.
-    pub fn beside(self, ending: &'static str) -> Refusal<'a>
+    pub fn beside(self, ending: &str) -> Refusal
         ensures { result.fault ≡ self.entry.fault }
     {
         let mut refusal = self;
-        refusal.ending = Ending {
-            word: ending,
-            number: None,
-        };
+        refusal.ending = Ending::of(ending);
         refusal
     }
 
     /// The same where the name ends with this number behind that.
-    pub fn numbered(self, number: Option<u32>) -> Refusal<'a>
+    pub fn numbered(self, number: Option<u32>) -> Refusal
         ensures { result.fault ≡ self.entry.fault }
     {
-        let word = self.ending.word;
         let mut refusal = self;
-        refusal.ending = Ending { word, number };
+        refusal.ending.number = number;
         refusal
     }
 
     /// The fault of an input that failed while it was read.
-    pub fn unread(input: &Input<'a>) -> Refusal<'a>
+    pub fn unread(input: &Input<'_>) -> Refusal
         ensures { result.fault ≡ Fault.Desk DeskFault.Device }
     {
         Refusal::from(DeskFault::Device).at(input.name(), input.reason())
@@ -253,14 +252,14 @@ impl<'a> Refusal<'a> {
     }
 
     /// The fault of standard output where it is closed from the start.
-    pub fn of_closed_output() -> Refusal<'a>
+    pub fn of_closed_output() -> Refusal
         ensures { result.fault ≡ Fault.Desk DeskFault.Device }
     {
         Refusal::from(DeskFault::Device).at("standard output", Some(NOT_OPEN))
     }
 
     /// The fault of standard output where help or the version is written to it.
-    pub fn unwritten(error: &io::Error) -> Refusal<'a>
+    pub fn unwritten(error: &io::Error) -> Refusal
         ensures { result.fault ≡ Fault.Desk DeskFault.Device }
     {
         let refusal = Refusal::from(DeskFault::Device).at("standard output", error.raw_os_error());
@@ -269,7 +268,7 @@ impl<'a> Refusal<'a> {
 
     /// Names the input where it may be the one that the fault is of. Inputs are read and checked one behind the other, and noted
     /// in that order: the fault of an input is one of the last that was read, and a device that failed is the last that did.
-    fn noting(self, input: &Input<'a>) -> Refusal<'a>
+    fn noting(self, input: &Input<'_>) -> Refusal
         ensures { result.fault ≡ self.entry.fault }
     {
         if let Fault::Desk(DeskFault::Device) = self.fault {
@@ -286,7 +285,7 @@ impl<'a> Refusal<'a> {
 
     /// Names the journal where one of its lines is not what the scripts ask, or it has fewer than the words say, or where no run of its
     /// seal, or several, began where the scripts may have begun.
-    pub fn noting_unasked(self, journal: &Input<'a>) -> Refusal<'a>
+    pub fn noting_unasked(self, journal: &Input<'_>) -> Refusal
         ensures { result.fault ≡ self.entry.fault }
     {
         match self.fault {
@@ -299,7 +298,7 @@ impl<'a> Refusal<'a> {
         }
     }
 
-    fn of_input(self, input: &Input<'a>) -> Refusal<'a>
+    fn of_input(self, input: &Input<'_>) -> Refusal
         ensures { result.fault ≡ self.entry.fault }
     {
         let mut refusal = self.at(input.name(), None);
@@ -308,7 +307,7 @@ impl<'a> Refusal<'a> {
     }
 
     /// The same for several, in order.
-    pub fn noting_all(self, inputs: &[&Input<'a>]) -> Refusal<'a>
+    pub fn noting_all(self, inputs: &[&Input<'_>]) -> Refusal
         ensures { result.fault ≡ self.entry.fault }
     {
         let mut refusal = self;
@@ -319,7 +318,7 @@ impl<'a> Refusal<'a> {
     }
 
     /// The same for inputs that are kept together.
-    pub fn noting_each(self, inputs: &[Input<'a>]) -> Refusal<'a>
+    pub fn noting_each(self, inputs: &[Input<'_>]) -> Refusal
         ensures { result.fault ≡ self.entry.fault }
     {
         let mut refusal = self;
@@ -330,7 +329,7 @@ impl<'a> Refusal<'a> {
     }
 
     /// The same for outputs.
-    pub fn noting_outputs(self, outputs: &[&Output<'a>]) -> Refusal<'a>
+    pub fn noting_outputs(self, outputs: &[&Output<'_>]) -> Refusal
         ensures { result.fault ≡ self.entry.fault }
     {
         let mut refusal = self;
@@ -341,7 +340,7 @@ impl<'a> Refusal<'a> {
     }
 
     /// The same for the file of a journal, and for the list that is put ahead of it.
-    pub fn noting_journal(self, journal: &JournalFile<'a>) -> Refusal<'a>
+    pub fn noting_journal(self, journal: &JournalFile<'_>) -> Refusal
         ensures { result.fault ≡ self.entry.fault }
     {
         match self.fault {
@@ -354,12 +353,12 @@ impl<'a> Refusal<'a> {
     }
 
     /// Notes that the journal is in its place, behind so many lines that it goes on from, and behind so many that scripts had then.
-    pub fn noting_put(self, file: &'a str, behind: u64, resumed: u64) -> Refusal<'a>
+    pub fn noting_put(self, file: &str, behind: u64, resumed: u64) -> Refusal
         ensures { result.fault ≡ self.entry.fault }
     {
         let mut refusal = self;
         refusal.put = Some(Put {
-            file,
+            file: ToldName::of(file),
             behind,
             resumed,
         });
@@ -368,17 +367,19 @@ impl<'a> Refusal<'a> {
 
     /// Says on standard error where the journal of a run is in its place and the replies failed, and how they are written once more.
     pub fn tell_put(&self, rt: &HostRuntime) {
-        let Some(put) = self.put else {
+        let Some(put) = &self.put else {
             return;
         };
-        let file = Shown { name: put.file };
+        let file = Shown {
+            name: put.file.as_str(),
+        };
         let _ = eprintln!(rt;
             "seatdesk: note: {file} has the journal; its replies once more: seatdesk replies{put}"
         );
     }
 
     /// The same for the seal of a journal.
-    pub fn noting_seal(self, seal: &SealOut<'a>) -> Refusal<'a>
+    pub fn noting_seal(self, seal: &SealOut<'_>) -> Refusal
         ensures { result.fault ≡ self.entry.fault }
     {
         match self.fault {
@@ -391,7 +392,7 @@ impl<'a> Refusal<'a> {
     }
 
     /// The same for an output.
-    pub fn noting_output(self, output: &Output<'a>) -> Refusal<'a>
+    pub fn noting_output(self, output: &Output<'_>) -> Refusal
         ensures { result.fault ≡ self.entry.fault }
     {
         match self.fault {
@@ -404,7 +405,7 @@ impl<'a> Refusal<'a> {
     }
 
     /// The same, which nobody is told of.
-    pub fn silenced(self) -> Refusal<'a>
+    pub fn silenced(self) -> Refusal
         ensures { result.fault ≡ self.entry.fault }
     {
         let mut refusal = self;
@@ -413,7 +414,7 @@ impl<'a> Refusal<'a> {
     }
 
     /// Nobody is told of a failure of standard output whose reader has gone away.
-    fn hushed(self) -> Refusal<'a>
+    fn hushed(self) -> Refusal
         ensures { result.fault ≡ self.entry.fault }
     {
         let mut refusal = self;
@@ -422,12 +423,12 @@ impl<'a> Refusal<'a> {
     }
 
     /// The same fault, of this file, with the system's number for what failed.
-    pub fn at(self, file: &'a str, reason: Option<i32>) -> Refusal<'a>
+    pub fn at(self, file: &str, reason: Option<i32>) -> Refusal
         ensures { result.fault ≡ self.entry.fault }
     {
         let mut refusal = self;
-        refusal.file = Some(file);
-        refusal.ending = Ending::NONE;
+        refusal.file = Some(ToldName::of(file));
+        refusal.ending = Ending::of("");
         refusal.reason = reason;
         refusal
     }
@@ -439,9 +440,10 @@ impl<'a> Refusal<'a> {
 
     /// Says what is known of the file, in a line on standard error, and in one more where it begins with a byte order mark.
     pub fn tell_more(&self, rt: &HostRuntime) {
-        let Some(name) = self.file else {
+        let Some(file) = &self.file else {
             return;
         };
+        let name = file.as_str();
         if let Some(path) = self.led(rt, name) {
             return self.tell_reason(
                 rt,
@@ -464,7 +466,7 @@ impl<'a> Refusal<'a> {
 
     /// Where a link of this name leads, if the fault is of what stands beside the file: that stands beside what the link leads to.
     fn led(&self, rt: &HostRuntime, name: &str) -> Option<String> {
-        if self.ending.word.is_empty() || !is_link(rt, name) {
+        if self.ending.word.as_str().is_empty() || !is_link(rt, name) {
             return None;
         }
         match fs::canonicalize(rt, name) {
@@ -474,9 +476,9 @@ impl<'a> Refusal<'a> {
     }
 
     /// All that is said of the file, where no number stands in it.
-    fn words(&self) -> Option<&'static str> {
-        if let Some(why) = self.why {
-            return Some(why);
+    fn words(&self) -> Option<&str> {
+        if let Some(why) = &self.why {
+            return Some(why.as_str());
         }
         match self.fault {
             Fault::Desk(DeskFault::TooLarge)
@@ -491,7 +493,7 @@ impl<'a> Refusal<'a> {
     }
 
     fn tell_reason(&self, rt: &HostRuntime, file: &Shown<'_>) {
-        let ending = self.ending;
+        let ending = &self.ending;
         match self.reason {
             Some(code) => {
                 let error = io::Error::from_raw_os_error(code);
@@ -520,16 +522,16 @@ impl<'a> Refusal<'a> {
 
 /// A key that a fault is of and its code does not say, with a blank ahead of it; or nothing.
 #[derive(Clone, Copy)]
-pub struct Behind<'a> {
-    key: Option<&'a str>,
+pub struct Behind {
+    key: Option<ToldWords>,
 }
 
-impl fmt::Display for Behind<'_> {
+impl fmt::Display for Behind {
     fn fmt<W: fmt::Write>(&self, f: &mut fmt::Formatter<W>) -> fmt::Result {
-        match self.key {
-            Some(name) => {
+        match &self.key {
+            Some(key) => {
                 f.write_char(' ')?;
-                Shown { name }.fmt(f)
+                Shown { name: key.as_str() }.fmt(f)
             }
             None => Ok(()),
         }
@@ -613,17 +615,17 @@ fn place_in(fault: &DeskFault) -> Option<(&'static str, u32)> {
     }
 }
 
-impl<'a> From<DeskFault> for Refusal<'a> {
-    fn from(fault: DeskFault) -> Refusal<'a>
+impl From<DeskFault> for Refusal {
+    fn from(fault: DeskFault) -> Refusal
         ensures { result.fault ≡ Fault.Desk fault }
     {
         Refusal::of(Fault::Desk(fault))
     }
 }
 
-impl<'a> From<ShardFault> for Refusal<'a> {
+impl From<ShardFault> for Refusal {
     /// What is no fault of one of several journals is one of the desk.
-    fn from(fault: ShardFault) -> Refusal<'a>
+    fn from(fault: ShardFault) -> Refusal
         ensures text { printed result.fault ≡ shard_text fault }
         ensures status { exit_status result.fault ≡ status_of_shards fault }
     {
@@ -634,8 +636,8 @@ impl<'a> From<ShardFault> for Refusal<'a> {
     }
 }
 
-impl<'a> From<WordFault> for Refusal<'a> {
-    fn from(fault: WordFault) -> Refusal<'a>
+impl From<WordFault> for Refusal {
+    fn from(fault: WordFault) -> Refusal
         ensures { result.fault ≡ Fault.Word fault }
     {
         Refusal::of(Fault::Word(fault))
@@ -643,11 +645,11 @@ impl<'a> From<WordFault> for Refusal<'a> {
 }
 
 /// What a command came to: done, or refused for one of the inputs, in the order in which they are read, or of the outputs.
-pub fn told<'a>(
+pub fn told(
     outcome: Result<(), DeskFault>,
-    inputs: &[&Input<'a>],
-    outputs: &[&Output<'a>],
-) -> Result<(), Refusal<'a>>
+    inputs: &[&Input<'_>],
+    outputs: &[&Output<'_>],
+) -> Result<(), Refusal>
     ensures ok { IsOk outcome → IsOk result }
     ensures fault { IfErr outcome (λ fault. IsErrAnd result (λ refusal. refusal.fault ≡ Fault.Desk fault)) }
 {

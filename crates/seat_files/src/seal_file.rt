@@ -38,11 +38,11 @@ impl SealFile {
     }
 
     /// What stands beside a journal that is open, where it is a regular file.
-    pub fn beside<'a>(
+    pub fn beside(
         rt: &HostRuntime,
-        journal: &Input<'a>,
+        journal: &Input<'_>,
         is_wanted: bool,
-    ) -> Result<SealFile, Refusal<'a>>
+    ) -> Result<SealFile, Refusal>
         ensures wanted { IfOk result (λ seal. seal_wanted seal ≡ is_wanted) }
         ensures refused { IfErr result (λ refusal. IsTrue (is_failure refusal.fault)) }
     {

@@ -18,12 +18,12 @@ pub struct StatusFile {
 impl StatusFile {
     /// The file of this name. It is none of the inputs, nor the journal, which is there, nor where standard output or standard error goes. It is a
     /// regular file, or is not there; where it can't be looked at it is taken all the same.
-    pub fn of<'a>(
+    pub fn of(
         rt: &HostRuntime,
-        path: &'a str,
-        inputs: &Inputs<Input<'a>, Input<'a>>,
-        journal: &'a str,
-    ) -> Result<StatusFile, Refusal<'a>> {
+        path: &str,
+        inputs: &Inputs<Input<'_>, Input<'_>>,
+        journal: &str,
+    ) -> Result<StatusFile, Refusal> {
         match pass(rt, path, inputs, journal) {
             Err(refusal) if refusal.is_barred() => return Err(refusal.as_unsaid()),
             _ => {}
@@ -56,12 +56,12 @@ impl StatusFile {
     }
 }
 
-fn pass<'a>(
+fn pass(
     rt: &HostRuntime,
-    path: &'a str,
-    inputs: &Inputs<Input<'a>, Input<'a>>,
-    journal: &'a str,
-) -> Result<(), Refusal<'a>> {
+    path: &str,
+    inputs: &Inputs<Input<'_>, Input<'_>>,
+    journal: &str,
+) -> Result<(), Refusal> {
     let guard = match Guard::new(rt, path) {
         Ok(guard) => guard,
         Err(refusal) => return Err(refusal),
@@ -75,12 +75,12 @@ fn pass<'a>(
     is_regular(rt, path)
 }
 
-fn pass_inputs<'a>(
+fn pass_inputs(
     rt: &HostRuntime,
-    guard: &Guard<'a>,
-    inputs: &Inputs<Input<'a>, Input<'a>>,
-    journal: &'a str,
-) -> Result<(), Refusal<'a>> {
+    guard: &Guard<'_>,
+    inputs: &Inputs<Input<'_>, Input<'_>>,
+    journal: &str,
+) -> Result<(), Refusal> {
     match opened(rt, journal) {
         Ok(lines) => guard.pass(inputs, &[], &[&lines]),
         Err(refusal) => Err(refusal),
@@ -88,7 +88,7 @@ fn pass_inputs<'a>(
 }
 
 // What stands there, if anything does, is a regular file.
-fn is_regular<'a>(rt: &HostRuntime, path: &'a str) -> Result<(), Refusal<'a>> {
+fn is_regular(rt: &HostRuntime, path: &str) -> Result<(), Refusal> {
     match fs::metadata(rt, path) {
         Ok(there) if !there.is_file() => Err(Refusal::unsaid(path, "Is no regular file")),
         _ => Ok(()),

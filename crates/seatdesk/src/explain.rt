@@ -17,7 +17,7 @@ const DASH: &str = "-";
 const DASH_AND_BLANK: &str = "- ";
 
 /// Writes what a fault line means, or what a reply or a note says.
-pub fn explain<'a>(rt: &HostRuntime, code: &str, behind: &[&str]) -> Result<(), Undone<'a>> {
+pub fn explain(rt: &HostRuntime, code: &str, behind: &[&str]) -> Result<(), Undone> {
     let text = match meaning_of(rt.alloc(), code, behind)? {
         Meaning::Found(text) => text,
         Meaning::Unknown(word) => return Err(unknown(rt, word)?),
@@ -63,7 +63,7 @@ fn text_of(rt: &HostRuntime, fault: &Fault) -> Result<String, AllocError> {
     }
 }
 
-fn unknown<'a>(rt: &HostRuntime, word: &str) -> Result<Undone<'a>, AllocError> {
+fn unknown(rt: &HostRuntime, word: &str) -> Result<Undone, AllocError> {
     let mut message = String::new(rt.alloc());
     message.push_str("invalid value '")?;
     message.push_str(word)?;
@@ -71,7 +71,7 @@ fn unknown<'a>(rt: &HostRuntime, word: &str) -> Result<Undone<'a>, AllocError> {
     Ok(Undone::Word(wrong_value(rt.alloc(), message.as_str())?))
 }
 
-fn write<'a>(rt: &HostRuntime, text: &str) -> Result<(), Undone<'a>> {
+fn write(rt: &HostRuntime, text: &str) -> Result<(), Undone> {
     let mut out = standard_output(rt);
     match put_all(&mut out, text.as_bytes()) {
         Ok(()) => Ok(()),

@@ -53,7 +53,7 @@ fn main(rt: HostRuntime) -> ExitCode {
 }
 
 /// Why the words are not read: one of them is not UTF-8, or a growth was refused.
-fn unread<'a>(error: &io::Error) -> Refusal<'a> {
+fn unread(error: &io::Error) -> Refusal {
     if error.kind() == io::ErrorKind::InvalidData {
         Refusal::from(WordFault::BadWords)
     } else {
@@ -78,10 +78,10 @@ fn start<T: Threads + Wait + Clock + Sync + Copy + Send + 'static>(
 }
 
 /// Runs the command that these words name, with what their season says among them where they name one.
-pub fn done_by<'a, T: Threads + Wait + Clock + Sync + Copy + Send + 'static>(
-    rt: &'a HostRuntime,
+pub fn done_by<T: Threads + Wait + Clock + Sync + Copy + Send + 'static>(
+    rt: &HostRuntime,
     threads: &T,
-    words: &'a [&'a str],
+    words: &[&str],
 ) -> io::Result<ExitCode> {
     let asked = match read_words(rt.alloc(), words) {
         Ok(asked) => asked,
@@ -109,12 +109,12 @@ fn tell_of_season(rt: &HostRuntime, words: &[&str], error: &clap::Error) {
 }
 
 /// Does what the command line asks for.
-fn carry_out<'a, T: Threads + Wait + Clock + Sync + Copy + Send + 'static>(
-    rt: &'a HostRuntime,
+fn carry_out<T: Threads + Wait + Clock + Sync + Copy + Send + 'static>(
+    rt: &HostRuntime,
     threads: &T,
-    meter: &'a Meter,
-    asked: &CommandLine<'a>,
-) -> Result<ExitCode, Undone<'a>> {
+    meter: &Meter,
+    asked: &CommandLine<'_>,
+) -> Result<ExitCode, Undone> {
     match &asked.job {
         Job::Ladder => done(question_commands::ladder(rt)),
         Job::Check { set } => done(question_commands::check(rt, meter, set)),
@@ -184,7 +184,7 @@ fn staying<'a>(alloc: Global, meter: Meter) -> Result<&'a Meter, AllocError> {
     Ok(&meters[0])
 }
 
-fn done<'a>(outcome: Result<(), Refusal<'a>>) -> Result<ExitCode, Undone<'a>> {
+fn done(outcome: Result<(), Refusal>) -> Result<ExitCode, Undone> {
     match outcome {
         Ok(()) => Ok(ExitCode::SUCCESS),
         Err(refusal) => Err(Undone::Refused(refusal)),
@@ -192,7 +192,7 @@ fn done<'a>(outcome: Result<(), Refusal<'a>>) -> Result<ExitCode, Undone<'a>> {
 }
 
 /// A season file of a set and of limits that have a name.
-fn seasoned<'a>(rt: &HostRuntime, set: &'a str, limits: &str) -> Result<ExitCode, Undone<'a>> {
+fn seasoned(rt: &HostRuntime, set: &str, limits: &str) -> Result<ExitCode, Undone> {
     if limits.is_empty() {
         return Err(Undone::Word(wrong_value(rt.alloc(), NO_LIMITS)?));
     }
@@ -200,12 +200,12 @@ fn seasoned<'a>(rt: &HostRuntime, set: &'a str, limits: &str) -> Result<ExitCode
 }
 
 /// A list against a journal, where the words say whose bookings it is to have.
-fn reconciled<'a, T: Threads + Sync>(
+fn reconciled<T: Threads + Sync>(
     rt: &HostRuntime,
     threads: &T,
-    meter: &'a Meter,
-    asked: &ReconcileJob<'a>,
-) -> Result<ExitCode, Undone<'a>> {
+    meter: &Meter,
+    asked: &ReconcileJob<'_>,
+) -> Result<ExitCode, Undone> {
     if asked.all && asked.session.is_some() {
         return Err(Undone::Word(words_in_conflict(rt.alloc(), BOTH)?));
     }
@@ -220,11 +220,11 @@ fn reconciled<'a, T: Threads + Sync>(
 }
 
 /// A host, where its words say whom it serves.
-fn served<'a, T: Threads + Wait + Clock + Copy + Send + 'static>(
-    rt: &'a HostRuntime,
+fn served<T: Threads + Wait + Clock + Copy + Send + 'static>(
+    rt: &HostRuntime,
     threads: &T,
-    asked: &ServeJob<'a>,
-) -> Result<ExitCode, Undone<'a>> {
+    asked: &ServeJob<'_>,
+) -> Result<ExitCode, Undone> {
     if asked.desks.as_slice().is_empty() && asked.manager.is_none() && asked.feed.is_none() {
         return Err(Undone::Word(wrong_value(rt.alloc(), NOBODY)?));
     }
@@ -232,12 +232,12 @@ fn served<'a, T: Threads + Wait + Clock + Copy + Send + 'static>(
 }
 
 /// The journals of hosts that have different flights, or one journal, with the scripts of its run or alone.
-fn audited<'a, T: Threads + Sync>(
+fn audited<T: Threads + Sync>(
     rt: &HostRuntime,
     threads: &T,
-    meter: &'a Meter,
-    asked: &AuditJob<'a>,
-) -> Result<(), Refusal<'a>> {
+    meter: &Meter,
+    asked: &AuditJob<'_>,
+) -> Result<(), Refusal> {
     if asked.are_shards {
         return question_commands::audit_shards(rt, threads, meter, asked);
     }
@@ -247,7 +247,7 @@ fn audited<'a, T: Threads + Sync>(
 /// The status of a command that was refused: its fault is one line on standard error, with one more where the words ask for it, or where
 /// a run's journal is in its place and its replies are not out, and with what it means where standard error is a terminal; there it
 /// is said too why a file may not be the journal's. Where the reader of standard output has gone away nothing is said.
-pub fn refused(rt: &HostRuntime, is_verbose: bool, refusal: &Refusal<'_>) -> ExitCode {
+pub fn refused(rt: &HostRuntime, is_verbose: bool, refusal: &Refusal) -> ExitCode {
     let fault = refusal.fault;
     if !refusal.is_unheard() {
         let behind = refusal.behind();

@@ -71,13 +71,13 @@ fn words_over(
 }
 
 /// Runs `compare` over what two seasons say of a set, its limits and its days.
-pub fn compared<'a, T: Threads + Sync>(
+pub fn compared<T: Threads + Sync>(
     rt: &HostRuntime,
     threads: &T,
-    meter: &'a Meter,
-    asked: &CompareJob<'a>,
+    meter: &Meter,
+    asked: &CompareJob<'_>,
     is_verbose: bool,
-) -> Result<ExitCode, Undone<'a>> {
+) -> Result<ExitCode, Undone> {
     let (from, to) = match both_words(rt, asked.from, asked.to, is_verbose)? {
         Ok(words) => words,
         Err(status) => return Ok(status),
@@ -98,13 +98,13 @@ pub fn compared<'a, T: Threads + Sync>(
 }
 
 /// Runs `carry` over what two seasons say of a set, its limits and its days. Its status says too where legs have too few seats.
-pub fn carried<'a, T: Threads + Sync>(
-    rt: &'a HostRuntime,
+pub fn carried<T: Threads + Sync>(
+    rt: &HostRuntime,
     threads: &T,
-    meter: &'a Meter,
-    asked: &CarryJob<'a>,
+    meter: &Meter,
+    asked: &CarryJob<'_>,
     is_verbose: bool,
-) -> Result<ExitCode, Undone<'a>> {
+) -> Result<ExitCode, Undone> {
     let (from, to) = match both_words(rt, asked.from, asked.to, is_verbose)? {
         Ok(words) => words,
         Err(status) => return Ok(status),
@@ -146,12 +146,12 @@ fn both_words(
 }
 
 /// The status of a command over two seasons that was not done, of which a refusal is told while what the seasons say is there.
-fn over_both<'a>(
+fn over_both(
     rt: &HostRuntime,
     meter: &Meter,
     is_verbose: bool,
-    undone: Undone<'_>,
-) -> Result<ExitCode, Undone<'a>> {
+    undone: Undone,
+) -> Result<ExitCode, Undone> {
     match undone {
         Undone::Word(error) => Err(Undone::Word(error)),
         Undone::Refused(refusal) => {
@@ -161,14 +161,14 @@ fn over_both<'a>(
     }
 }
 
-fn compared_over<'a, T: Threads + Sync>(
+fn compared_over<T: Threads + Sync>(
     rt: &HostRuntime,
     threads: &T,
-    meter: &'a Meter,
-    from: &'a [&'a str],
-    to: &'a [&'a str],
-    journal: Option<&'a str>,
-) -> Result<(), Undone<'a>> {
+    meter: &Meter,
+    from: &[&str],
+    to: &[&str],
+    journal: Option<&str>,
+) -> Result<(), Undone> {
     let from = horizon_in(rt, from)?;
     let to = horizon_in(rt, to)?;
     question_commands::compare(rt, threads, meter, &from, &to, journal)?;
@@ -176,7 +176,7 @@ fn compared_over<'a, T: Threads + Sync>(
 }
 
 /// Over what the words of a command work that has nothing else.
-fn horizon_in<'a>(rt: &HostRuntime, words: &'a [&'a str]) -> Result<Horizon<'a>, Undone<'a>> {
+fn horizon_in<'a>(rt: &HostRuntime, words: &'a [&'a str]) -> Result<Horizon<'a>, Undone> {
     let line = match read_words(rt.alloc(), words) {
         Ok(line) => line,
         Err(error) => return Err(Undone::Word(error)),
@@ -195,7 +195,7 @@ fn in_conflict(rt: &HostRuntime, option: &str) -> Result<clap::Error, AllocError
     words_in_conflict(rt.alloc(), message.as_str())
 }
 
-fn table_of<'a>(rt: &HostRuntime, file: &'a str) -> Result<Table, Refusal<'a>> {
+fn table_of(rt: &HostRuntime, file: &str) -> Result<Table, Refusal> {
     let mut input = opened(rt, file)?;
     let text = match read_input(rt.alloc(), &mut input, MOST_SEASON_BYTES) {
         Ok(text) => text,

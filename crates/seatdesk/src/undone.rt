@@ -5,20 +5,20 @@ use std::alloc::AllocError;
 
 /// Why a command was not done.
 #[derive(Drop)]
-pub enum Undone<'a> {
+pub enum Undone {
     /// One of its words is not what it may be, which only the command could tell.
     Word(clap::Error),
-    Refused(Refusal<'a>),
+    Refused(Refusal),
 }
 
-impl<'a> From<Refusal<'a>> for Undone<'a> {
-    fn from(refusal: Refusal<'a>) -> Undone<'a> {
+impl From<Refusal> for Undone {
+    fn from(refusal: Refusal) -> Undone {
         Undone::Refused(refusal)
     }
 }
 
-impl<'a> From<AllocError> for Undone<'a> {
-    fn from(_error: AllocError) -> Undone<'a> {
+impl From<AllocError> for Undone {
+    fn from(_error: AllocError) -> Undone {
         Undone::Refused(Refusal::from(DeskFault::Memory))
     }
 }
