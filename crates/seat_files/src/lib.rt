@@ -16,7 +16,7 @@ mod seal_file;
 mod seal_out;
 mod status_file;
 mod streams;
-mod told;
+mod telling;
 
 pub use fault::{CarryKind, Fault, ListKind};
 pub use file_fault::{NOT_EMPTY, TOO_LONG};

@@ -8,7 +8,7 @@ use crate::fault::{CarryKind, Fault, ListKind};
 use crate::journal_file::{JournalFile, is_link};
 use crate::seal_out::SealOut;
 use crate::streams::{Input, Output};
-use crate::told::{ToldName, ToldWords};
+use crate::telling::{ToldName, ToldWords};
 use airline_base::Failures;
 use seat_desk::DeskFault;
 use seat_seal::SealFault;
