@@ -26,7 +26,7 @@ impl Refusal {
         scripts: &[Input<'_>],
         changes: &Input<'_>,
     ) -> Refusal
-        ensures { result.fault ≡ self.entry.fault }
+        ensures { result.fault ≡ self.fault }
     {
         match self.fault {
             Fault::Desk(DeskFault::Seal(SealFault::Again)) => {}

@@ -205,7 +205,7 @@ impl Refusal {
 
     /// The same, for the same reason, of what may not be the file of the refused lines as it may not be a journal's.
     pub fn as_unlisted(self) -> Refusal
-        ensures { result.fault ≡ unlisted self.entry.fault }
+        ensures { result.fault ≡ unlisted self.fault }
     {
         let mut refusal = self;
         if let Fault::Word(WordFault::BadJournal) = self.fault {
@@ -221,7 +221,7 @@ impl Refusal {
 
     /// The same of the file beside it whose name ends so.
     pub fn beside(self, ending: &str) -> Refusal
-        ensures { result.fault ≡ self.entry.fault }
+        ensures { result.fault ≡ self.fault }
     {
         let mut refusal = self;
         refusal.ending = Ending::of(ending);
@@ -230,7 +230,7 @@ impl Refusal {
 
     /// The same where the name ends with this number behind that.
     pub fn numbered(self, number: Option<u32>) -> Refusal
-        ensures { result.fault ≡ self.entry.fault }
+        ensures { result.fault ≡ self.fault }
     {
         let mut refusal = self;
         refusal.ending.number = number;
@@ -269,7 +269,7 @@ impl Refusal {
     /// Names the input where it may be the one that the fault is of. Inputs are read and checked one behind the other, and noted
     /// in that order: the fault of an input is one of the last that was read, and a device that failed is the last that did.
     fn noting(self, input: &Input<'_>) -> Refusal
-        ensures { result.fault ≡ self.entry.fault }
+        ensures { result.fault ≡ self.fault }
     {
         if let Fault::Desk(DeskFault::Device) = self.fault {
             if input.failures() > 0 {
@@ -286,7 +286,7 @@ impl Refusal {
     /// Names the journal where one of its lines is not what the scripts ask, or it has fewer than the words say, or where no run of its
     /// seal, or several, began where the scripts may have begun.
     pub fn noting_unasked(self, journal: &Input<'_>) -> Refusal
-        ensures { result.fault ≡ self.entry.fault }
+        ensures { result.fault ≡ self.fault }
     {
         match self.fault {
             Fault::Desk(
@@ -299,7 +299,7 @@ impl Refusal {
     }
 
     fn of_input(self, input: &Input<'_>) -> Refusal
-        ensures { result.fault ≡ self.entry.fault }
+        ensures { result.fault ≡ self.fault }
     {
         let mut refusal = self.at(input.name(), None);
         refusal.has_mark = input.has_mark();
@@ -308,7 +308,7 @@ impl Refusal {
 
     /// The same for several, in order.
     pub fn noting_all(self, inputs: &[&Input<'_>]) -> Refusal
-        ensures { result.fault ≡ self.entry.fault }
+        ensures { result.fault ≡ self.fault }
     {
         let mut refusal = self;
         for input in inputs {
@@ -319,7 +319,7 @@ impl Refusal {
 
     /// The same for inputs that are kept together.
     pub fn noting_each(self, inputs: &[Input<'_>]) -> Refusal
-        ensures { result.fault ≡ self.entry.fault }
+        ensures { result.fault ≡ self.fault }
     {
         let mut refusal = self;
         for input in inputs {
@@ -330,7 +330,7 @@ impl Refusal {
 
     /// The same for outputs.
     pub fn noting_outputs(self, outputs: &[&Output<'_>]) -> Refusal
-        ensures { result.fault ≡ self.entry.fault }
+        ensures { result.fault ≡ self.fault }
     {
         let mut refusal = self;
         for output in outputs {
@@ -341,7 +341,7 @@ impl Refusal {
 
     /// The same for the file of a journal, and for the list that is put ahead of it.
     pub fn noting_journal(self, journal: &JournalFile<'_>) -> Refusal
-        ensures { result.fault ≡ self.entry.fault }
+        ensures { result.fault ≡ self.fault }
     {
         match self.fault {
             Fault::Desk(DeskFault::Device) if journal.failures() > 0 => {
@@ -354,7 +354,7 @@ impl Refusal {
 
     /// Notes that the journal is in its place, behind so many lines that it goes on from, and behind so many that scripts had then.
     pub fn noting_put(self, file: &str, behind: u64, resumed: u64) -> Refusal
-        ensures { result.fault ≡ self.entry.fault }
+        ensures { result.fault ≡ self.fault }
     {
         let mut refusal = self;
         refusal.put = Some(Put {
@@ -380,7 +380,7 @@ impl Refusal {
 
     /// The same for the seal of a journal.
     pub fn noting_seal(self, seal: &SealOut<'_>) -> Refusal
-        ensures { result.fault ≡ self.entry.fault }
+        ensures { result.fault ≡ self.fault }
     {
         match self.fault {
             Fault::Desk(DeskFault::Device) if seal.failures() > 0 => {
@@ -393,7 +393,7 @@ impl Refusal {
 
     /// The same for an output.
     pub fn noting_output(self, output: &Output<'_>) -> Refusal
-        ensures { result.fault ≡ self.entry.fault }
+        ensures { result.fault ≡ self.fault }
     {
         match self.fault {
             Fault::Desk(DeskFault::Device) if output.failures() > 0 => {
@@ -406,7 +406,7 @@ impl Refusal {
 
     /// The same, which nobody is told of.
     pub fn silenced(self) -> Refusal
-        ensures { result.fault ≡ self.entry.fault }
+        ensures { result.fault ≡ self.fault }
     {
         let mut refusal = self;
         refusal.is_unheard = true;
@@ -415,7 +415,7 @@ impl Refusal {
 
     /// Nobody is told of a failure of standard output whose reader has gone away.
     fn hushed(self) -> Refusal
-        ensures { result.fault ≡ self.entry.fault }
+        ensures { result.fault ≡ self.fault }
     {
         let mut refusal = self;
         refusal.is_unheard = self.reason == Some(READER_GONE);
@@ -424,7 +424,7 @@ impl Refusal {
 
     /// The same fault, of this file, with the system's number for what failed.
     pub fn at(self, file: &str, reason: Option<i32>) -> Refusal
-        ensures { result.fault ≡ self.entry.fault }
+        ensures { result.fault ≡ self.fault }
     {
         let mut refusal = self;
         refusal.file = Some(ToldName::of(file));
