@@ -5,3 +5,6 @@ pub mod Lettering
 pub mod Starting
 pub mod Pairing
 pub mod PickedUp
+pub mod Summing
+pub mod Grouped
+pub mod Together

@@ -4,3 +4,4 @@ pub mod GroupRows
 pub mod LegRows
 pub mod PairRows
 pub mod PickupRows
+pub mod Together

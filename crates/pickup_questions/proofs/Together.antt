@@ -12,9 +12,9 @@ use Rattle.seat_pickup.specs.Pickups.{of_class, pickups_of}
 use Rattle.seat_pickup.specs.declared.classes.Pickup.{Pickup}
 use Rattle.table_questions.specs.SumRows.{day_count, days_from}
 use Rattle.pickup_questions.specs.Groups.{by_class, by_flight, by_given, start_group, start_groups}
-use Rattle.pickup_laws.specs.Together.{AreTogether, GroupsComeToSums, HasLegs}
-use Rattle.pickup_laws.proofs.Summing.{together}
-use Rattle.pickup_laws.proofs.Grouped.{all_flights, has_legs_at, start_within, starts_at}
+use Rattle.pickup_questions.specs.Together.{AreTogether, GroupsComeToSums, HasLegs}
+use Rattle.pickup_questions.proofs.Summing.{together}
+use Rattle.pickup_questions.proofs.Grouped.{all_flights, has_legs_at, start_within, starts_at}
 
 are_together : (group : Pickup → ℕ) (count : ℕ) (all : List Pickup) → AllByRecursion (λ (p : Pickup). group p < count) all
     → AreTogether group count all

@@ -10,7 +10,7 @@ use Rattle.seat_pickup.specs.Pickups.{of_classes, of_flight, of_flights, of_lett
 use Rattle.seat_pickup.specs.declared.classes.Pickup.{Pickup}
 use Rattle.table_questions.specs.SumRows.{day_count, days_from, earliest, earliest_of, latest, latest_of}
 use Rattle.pickup_questions.specs.Groups.{start_group, start_groups}
-use Rattle.pickup_laws.specs.Together.{HasLegs}
+use Rattle.pickup_questions.specs.Together.{HasLegs}
 
 -- ---- what holds of each row
 

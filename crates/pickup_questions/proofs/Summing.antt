@@ -6,7 +6,7 @@ use Rattle.std.proofs.lemmas.List.Sums.{sum_by-cons}
 use Rattle.seat_pickup.specs.declared.classes.Pickup.{Pickup}
 use Rattle.pickup_questions.specs.Groups.{counts_in, move_of, sum_in}
 use Rattle.pickup_questions.specs.declared.groups.Move.{Move}
-use Rattle.pickup_laws.specs.Together.{sum_below}
+use Rattle.pickup_questions.specs.Together.{sum_below}
 
 alike : (f g : ℕ → ℕ) → ((k : ℕ) → f k ≡ g k) → (n : ℕ) → sum_below f n ≡ sum_below g n
 alike f g same zero = refl

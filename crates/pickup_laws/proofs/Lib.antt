@@ -1,3 +1,0 @@
-pub mod Summing
-pub mod Grouped
-pub mod Together

@@ -1,5 +1,0 @@
-use Rattle.pickup_laws.proofs.Together.{groups_come_to_sums}
-use Rattle.pickup_laws.proofs.laws.groups_come_to_sums.Goals as goal
-
-pub returns : goal.returns
-returns c = groups_come_to_sums
