@@ -13,3 +13,8 @@ pub mod Promised
 pub mod Told
 pub mod Own
 pub mod Enough
+pub mod Names
+pub mod Limits
+pub mod Full
+pub mod Moves
+pub mod Carrying

@@ -6,3 +6,4 @@ pub mod Lifting
 pub mod Overs
 pub mod Changes
 pub mod Laws
+pub mod Same

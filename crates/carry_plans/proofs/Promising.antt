@@ -48,7 +48,7 @@ use Rattle.carry_protections.specs.Going.{moved_under}
 use Rattle.carry_protections.specs.declared.course.Course.{Course}
 use Rattle.carry_plans.specs.Plans.{AreChosen, AreFollowed, AreParts, AreSeasons, AsksForAll, HasRoomIf, IsReportIn, first_twice, marks_for}
 use Rattle.carry_plans.specs.Promises.{AreAllThere, ComeFirst, EachByRoom, IsLineOf, IsPromised, NobodyLoses, StaysSame}
-use Rattle.carry_same.proofs.Carrying.{carry_is_same}
+use Rattle.carry_limits.proofs.Carrying.{carry_is_same}
 use Rattle.carry_plans.specs.declared.asked.CarryAsked.{CarryAsked}
 use Rattle.carry_plans.proofs.Apart.{apart_by_rows}
 use Rattle.carry_plans.proofs.Firsts.{held_come_first}

@@ -22,7 +22,7 @@ use Rattle.carry_limits.specs.Changes.{changes_for}
 use Rattle.carry_limits.specs.Overs.{overs}
 use Rattle.carry_lines.specs.Carried.{AreShut, HasLineEach, reply_for}
 use Rattle.carry_limits.specs.declared.wanting.Seasons.{Seasons}
-use Rattle.carry_same.specs.Same.{AllStay, IsSame, IsSameSeason, StandsOver}
+use Rattle.carry_limits.specs.Same.{AllStay, IsSame, IsSameSeason, StandsOver}
 use Rattle.carry_protections.specs.declared.course.Course.{Course}
 use Rattle.carry_plans.specs.Plans.{IsPlanned, marks_for}
 use Rattle.carry_plans.specs.declared.asked.CarryAsked.{CarryAsked}

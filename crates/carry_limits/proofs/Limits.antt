@@ -8,7 +8,7 @@ use Rattle.seat_nesting.specs.Nesting.{ByClass, IsDistinct, IsNotRising, IsWithi
 use Rattle.seat_nesting.specs.Changing.{step_of, with_marks}
 use Rattle.seat_carrying.specs.Carrying.{wait_of}
 use Rattle.seat_carrying.specs.Lifting.{changed_step, lifted, step_wanted, top_of, wanted, wanted_under, with_change}
-use Rattle.carry_same.proofs.Names.{SameNames}
+use Rattle.carry_limits.proofs.Names.{SameNames}
 
 -- ---- the step of a class
 

@@ -43,11 +43,11 @@ use Rattle.carry_limits.proofs.Grids.{IsThere, lifted_at, there_or_none}
 use Rattle.carry_limits.proofs.Lifted.{none_lifted}
 use Rattle.carry_limits.proofs.Parted.{held_on_flight, waiting_on_flight}
 use Rattle.carry_limits.proofs.Standing.{stays_replay}
-use Rattle.carry_same.specs.Same.{AllStay, CarryIsSame, IsSame, IsSameSeason, StandsOver}
-use Rattle.carry_same.proofs.Full.{none_fit}
-use Rattle.carry_same.proofs.Limits.{all_listed, lifted_is, under_top, wait_most, wanted_is}
-use Rattle.carry_same.proofs.Moves.{all_stay}
-use Rattle.carry_same.proofs.Names.{IsUnder, SameNames, same_names, under_closed}
+use Rattle.carry_limits.specs.Same.{AllStay, CarryIsSame, IsSame, IsSameSeason, StandsOver}
+use Rattle.carry_limits.proofs.Full.{none_fit}
+use Rattle.carry_limits.proofs.Limits.{all_listed, lifted_is, under_top, wait_most, wanted_is}
+use Rattle.carry_limits.proofs.Moves.{all_stay}
+use Rattle.carry_limits.proofs.Names.{IsUnder, SameNames, same_names, under_closed}
 
 -- ---- lists of steps
 
