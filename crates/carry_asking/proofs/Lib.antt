@@ -1,2 +1,4 @@
+pub mod Names
+pub mod Apart
 pub mod Parties
 pub mod Owned

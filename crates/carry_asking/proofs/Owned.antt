@@ -16,7 +16,7 @@ use Rattle.seat_replies.proofs.Serving.{served}
 use Rattle.seat_moving.specs.Moving.{moved, moved_by, session_in, session_of}
 use Rattle.carry_lines.specs.Carriable.{is_agent, is_carriable, is_party, is_there}
 use Rattle.carry_asking.specs.Laws.{MovedAreOwned}
-use Rattle.carry_laws.proofs.Apart.{GoesAs, goes_there}
+use Rattle.carry_asking.proofs.Apart.{GoesAs, goes_there}
 use Rattle.carry_asking.proofs.Parties.{IsParty, are_parties}
 
 le_test : (m n : ℕ) → m ≤ n → nat_le m n ≡ true

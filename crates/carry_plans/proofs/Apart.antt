@@ -22,7 +22,7 @@ use Rattle.seat_carrying.proofs.Turns.{differs_back}
 use Rattle.seat_moving.specs.Moving.{moved, moved_by, session_of, target}
 use Rattle.seat_moving.specs.declared.target.Target.{Target}
 use Rattle.seat_moving.specs.declared.target.Target.TheVariants.{Departed, Lost, Onto}
-use Rattle.carry_laws.proofs.Apart.{moved_stay_apart}
+use Rattle.carry_asking.proofs.Apart.{moved_stay_apart}
 use Rattle.carry_limits.specs.ByFlight.{IsByFlight, Lists, list_at}
 use Rattle.carry_limits.specs.Legs.{HasLegsOf, run_in, run_of}
 use Rattle.carry_order.specs.Ordering.{first_under, holds_under}

@@ -13,11 +13,11 @@ use Rattle.seat_rules.specs.declared.booking.Booking.{Booking}
 use Rattle.seat_rules.proofs.History.Faults.{place_same, same_nat}
 use Rattle.seat_carrying.specs.Owned.{bookings_of}
 use Rattle.seat_carrying.specs.declared.owned.Owned.{Owned}
-use Rattle.carry_laws.specs.Laws.{MovedStayApart}
+use Rattle.carry_asking.specs.Laws.{MovedStayApart}
 use Rattle.seat_moving.specs.Moving.{is_very, moved, moved_by, moved_to, name_of, onto, session_of, target, target_by}
 use Rattle.seat_moving.specs.declared.target.Target.{Target}
 use Rattle.seat_moving.specs.declared.target.Target.TheVariants.{Departed, Lost, Onto}
-use Rattle.carry_laws.proofs.Names.{found_is_named}
+use Rattle.carry_asking.proofs.Names.{found_is_named}
 
 -- ---- no two places go onto one
 
