@@ -1,2 +1,3 @@
 pub mod Flown
 pub mod Hosts
+pub mod Parts

@@ -1,2 +1,3 @@
 pub mod Laws
 pub mod Owning
+pub mod Parts

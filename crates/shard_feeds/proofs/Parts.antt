@@ -14,7 +14,7 @@ use Rattle.carry_parts.specs.Parts.{has_flight, has_some}
 use Rattle.carry_parts.specs.declared.part.Part.{Part}
 use Rattle.shard_feeds.proofs.Hosts.{AllOwn, together}
 use Rattle.shard_feeds.specs.Owning.{GoesTo, shard_flown, shard_of_flight}
-use Rattle.part_laws.specs.Laws.{AreParts, HasOwnLines, PartsAreLegalTogether, PartsAreShards, PartsHaveOwnLines, part_at}
+use Rattle.shard_feeds.specs.Parts.{AreParts, HasOwnLines, PartsAreLegalTogether, PartsAreShards, PartsHaveOwnLines, part_at}
 
 -- ---- flights
 
