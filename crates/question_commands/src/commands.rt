@@ -8,7 +8,6 @@ use airline_base::Day;
 use command_inputs::{days_of, inputs_of, meter_input, meter_inputs, tell_replaced};
 use desk_questions::ToldOf;
 use progress_meter::{Lines, Meter};
-use season_reports::desk_season;
 use seat_desk::{DeskFault, Inputs, NO_LINES, Question, answer_question};
 use seat_files::{
     Input, Output, Refusal, SealFile, SealOut, files_taken, is_moved, metered_output, opened,
@@ -16,7 +15,7 @@ use seat_files::{
 };
 use seat_open::{OpenAudit, OpenQuestion};
 use seat_questions::{Bars, Why};
-use seat_reports::{desk_audit, desk_check, desk_ladder, desk_seal};
+use seat_reports::{desk_audit, desk_check, desk_ladder, desk_seal, desk_season};
 use seat_words::{Horizon, ToldJob, WordFault, line_word, session_word};
 use std::thread::Threads;
 

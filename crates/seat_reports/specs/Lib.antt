@@ -5,3 +5,5 @@ pub mod Laws
 pub mod Lines
 pub mod Orders
 pub mod SealDesk
+pub mod SeasonFile
+pub mod Span

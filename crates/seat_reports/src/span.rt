@@ -1,6 +1,6 @@
 //! The days over which a data set has flights.
 ghost use Rattle.std.specs.Prelude.{◌≡◌, ◌≤◌, min};
-ghost use Rattle.season_reports.specs.Span.{days_of, days_until, earliest, end_of, first_of, last_of, later, latest};
+ghost use Rattle.seat_reports.specs.Span.{days_of, days_until, earliest, end_of, first_of, last_of, later, latest};
 
 use airline_base::Day;
 use ssim_records::{Carrier, DataSet, Leg};

@@ -1,7 +1,7 @@
 //! The text of a season file that is begun.
 ghost use Rattle.std.specs.Prelude.{◌≡◌, ◌≤◌, ◌++◌, ◌∷◌, [], IfOk, OnOk};
 ghost use Rattle.airline_base.specs.Days.{two_digits};
-ghost use Rattle.season_reports.specs.SeasonFile.{IsSeasonFile, escaped, letter, hex_digit, quoted};
+ghost use Rattle.seat_reports.specs.SeasonFile.{IsSeasonFile, escaped, letter, hex_digit, quoted};
 
 use crate::span::{days_of, first_of};
 use seat_desk::{put, put_number};

@@ -4,7 +4,7 @@ use Rattle.airline_base.specs.Days.{IsDate, two_digits}
 use Rattle.ssim_records.specs.SetText.{IsDataSet}
 use Rattle.ssim_records.specs.declared.set.DataSet.{DataSet}
 use Rattle.seat_desk.specs.CheckDesk.{most_set_bytes, most_records}
-use Rattle.season_reports.specs.Span.{days_of, first_of}
+use Rattle.seat_reports.specs.Span.{days_of, first_of}
 
 -- 0 to 9, A to F
 abbrev pub hex_digit : ℕ → ℕ

@@ -1,6 +1,6 @@
 use Rattle.std.proofs.Common.{◌≡◌, length}
-use Rattle.season_reports.specs.Span.{earliest}
-use Rattle.season_reports.proofs.span.earliest.Given as goal
+use Rattle.seat_reports.specs.Span.{earliest}
+use Rattle.seat_reports.proofs.span.earliest.Given as goal
 
 abbrev pub invariant-loop-rest : goal.invariant-loop-rest
 invariant-loop-rest l = earliest l.day l.rest ≡ earliest l.fn.first l.legs

@@ -2,9 +2,9 @@
 ghost use Rattle.std.specs.Prelude.{◌≡◌, ◌≢◌, ◌<◌, ◌≤◌, ◌⊎◌, IfErr, IfOk, IfSome, OnOk, length};
 ghost use Rattle.seat_desk.specs.CheckDesk.{IsRefusedSet, most_set_bytes};
 ghost use Rattle.seat_desk.specs.Desk.{HasFailed, InputFailed, IsOfInput, IsWritten, OfInput, OutputFailed};
-ghost use Rattle.season_reports.specs.SeasonFile.{Begins};
+ghost use Rattle.seat_reports.specs.SeasonFile.{Begins};
 
-use crate::text::season_text;
+use crate::season_file::season_text;
 use airline_base::{NotedRead, NotedWrite, put_all};
 use seat_desk::{DeskFault, MOST_SET_BYTES, data_set, read_input};
 use std::alloc::Global;

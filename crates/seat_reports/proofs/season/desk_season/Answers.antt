@@ -1,9 +1,9 @@
 use Rattle.std.proofs.Common.{ℕ, List, inr, subst}
 use Rattle.std.specs.Io.KnownBytes.{Appends}
 use Rattle.airline_base.specs.Noting.{TookFront}
-use Rattle.season_reports.specs.SeasonFile.{Begins}
+use Rattle.seat_reports.specs.SeasonFile.{Begins}
 use Rattle.seat_desk.proofs.ReadWhole.{of_input}
-use Rattle.season_reports.proofs.report.desk_season.Goals as goal
+use Rattle.seat_reports.proofs.season.desk_season.Goals as goal
 
 pub returns-in-Ok-clause-ok : goal.returns-in-Ok-clause-ok
 returns-in-Ok-clause-ok g c = record {

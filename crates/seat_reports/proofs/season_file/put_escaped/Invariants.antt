@@ -1,6 +1,6 @@
 use Rattle.std.proofs.Common.{◌≡◌, ◌++◌, length}
-use Rattle.season_reports.specs.SeasonFile.{escaped}
-use Rattle.season_reports.proofs.text.put_escaped.Given as goal
+use Rattle.seat_reports.specs.SeasonFile.{escaped}
+use Rattle.seat_reports.proofs.season_file.put_escaped.Given as goal
 
 abbrev pub invariant-loop-rest : goal.invariant-loop-rest
 invariant-loop-rest l = l.text.items ++ escaped l.rest ≡ l.fn.text.items ++ escaped l.name

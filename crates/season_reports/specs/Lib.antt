@@ -1,2 +1,0 @@
-pub mod SeasonFile
-pub mod Span
