@@ -32,9 +32,8 @@ use std::alloc::Global;
 use std::thread::Threads;
 use table_questions::{
     BookingTable, ClassSums, DaySums, FlightSums, HistoryTable, LegSums, LoadTable, PairSums,
-    RoomTable, Table, TableOf, WaitingTable,
+    RoomTable, Table, TableOf, WaitingTable, desk_flight_table,
 };
-use table_reports::desk_flight_table;
 
 /// The dated flights of a data set.
 pub fn flights(

@@ -4,3 +4,4 @@ pub mod RoomRows
 pub mod BookingRows
 pub mod SumRows
 pub mod HistoryRows
+pub mod FlightTable

@@ -1,4 +1,4 @@
-//! The answers of questions as tables: the loads, the rooms, the bookings and who waits, row by row.
+//! The answers of questions as tables: the loads, the rooms, the bookings and who waits, row by row; and the flights of a data set, leg by leg.
 //! It knows what a row says, and leaves how one is spelled, and every number, to the crates below.
 #![tactic(auto)]
 
@@ -8,6 +8,7 @@ mod by_day;
 mod by_flight;
 mod by_leg;
 mod by_pair;
+mod flights;
 mod history;
 mod loads;
 mod rooms;
@@ -20,6 +21,7 @@ pub use by_day::{DaySums, days_from, latest_of};
 pub use by_flight::FlightSums;
 pub use by_leg::LegSums;
 pub use by_pair::PairSums;
+pub use flights::desk_flight_table;
 pub use history::HistoryTable;
 pub use loads::LoadTable;
 pub use rooms::RoomTable;

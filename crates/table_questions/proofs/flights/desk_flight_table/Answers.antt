@@ -1,9 +1,9 @@
 use Rattle.std.proofs.Common.{ℕ, List, inr, subst}
 use Rattle.std.specs.Io.KnownBytes.{Appends}
 use Rattle.airline_base.specs.Noting.{TookFront}
-use Rattle.table_reports.specs.FlightTable.{IsFlightTable}
+use Rattle.table_questions.specs.FlightTable.{IsFlightTable}
 use Rattle.seat_desk.proofs.ReadWhole.{of_input}
-use Rattle.table_reports.proofs.flights.desk_flight_table.Goals as goal
+use Rattle.table_questions.proofs.flights.desk_flight_table.Goals as goal
 
 pub returns-in-Ok-clause-ok : goal.returns-in-Ok-clause-ok
 returns-in-Ok-clause-ok g c = record {

@@ -7,7 +7,7 @@ ghost use Rattle.seat_desk.specs.Desk.{HasFailed, InputFailed, IsOfInput, IsWrit
 ghost use Rattle.seat_desk.specs.FlightsDesk.{IsUnscheduled};
 ghost use Rattle.seat_tables.specs.Rows.{IsTable, rows_from};
 ghost use Rattle.seat_tables.specs.Sheets.{ArePut, IsReady};
-ghost use Rattle.table_reports.specs.FlightTable.{IsFlightTable, flight_names, leg_row, rows_of_flight, rows_of_leg};
+ghost use Rattle.table_questions.specs.FlightTable.{IsFlightTable, flight_names, leg_row, rows_of_flight, rows_of_leg};
 
 use airline_base::{Day, NotedRead, NotedWrite, put_all};
 use seat_desk::{DeskFault, MOST_SET_BYTES, read_input, scheduled};

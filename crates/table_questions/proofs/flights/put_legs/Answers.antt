@@ -2,8 +2,8 @@ use Rattle.std.proofs.Common.{ℕ, subst, sym, zero-add}
 use Rattle.seat_tables.specs.Sheets.{ArePut}
 use Rattle.seat_tables.proofs.Putting.{put_more, put_none}
 use Rattle.table_questions.proofs.Tables.{own_put}
-use Rattle.table_reports.specs.FlightTable.{flight_names, rows_of_leg}
-use Rattle.table_reports.proofs.flights.put_legs.Goals as goal
+use Rattle.table_questions.specs.FlightTable.{flight_names, rows_of_leg}
+use Rattle.table_questions.proofs.flights.put_legs.Goals as goal
 
 pub loop-j-init : goal.loop-j-init
 loop-j-init c = put_none flight_names c.args.sheet.now c.requires.ready

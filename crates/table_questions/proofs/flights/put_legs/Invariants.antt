@@ -2,8 +2,8 @@
 use Rattle.std.proofs.Common.{take}
 use Rattle.seat_tables.specs.Rows.{rows_from}
 use Rattle.seat_tables.specs.Sheets.{ArePut}
-use Rattle.table_reports.specs.FlightTable.{flight_names, rows_of_leg}
-use Rattle.table_reports.proofs.flights.put_legs.Given as goal
+use Rattle.table_questions.specs.FlightTable.{flight_names, rows_of_leg}
+use Rattle.table_questions.proofs.flights.put_legs.Given as goal
 
 abbrev pub invariant-loop-j : goal.invariant-loop-j
 invariant-loop-j l = ArePut flight_names (rows_from (rows_of_leg l.index l.flight) 0 (take l.j l.legs)) l.initial.sheet l.sheet

@@ -3,8 +3,8 @@ use Rattle.seat_questions.proofs.Covers.{there, here}
 use Rattle.seat_tables.specs.Sheets.{ArePut}
 use Rattle.seat_tables.proofs.Putting.{put_more, put_none}
 use Rattle.table_questions.proofs.Tables.{all_put}
-use Rattle.table_reports.specs.FlightTable.{flight_names, rows_of_flight}
-use Rattle.table_reports.proofs.flights.put_flights.Goals as goal
+use Rattle.table_questions.specs.FlightTable.{flight_names, rows_of_flight}
+use Rattle.table_questions.proofs.flights.put_flights.Goals as goal
 
 pub loop-index-init : goal.loop-index-init
 loop-index-init c = put_none flight_names c.args.sheet.now c.requires.ready
