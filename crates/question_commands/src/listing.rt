@@ -7,7 +7,6 @@ use crate::commands::{asked_of, bars_asked, page_of};
 use crate::shards::shards_asked;
 use airline_base::{Day, Locator};
 use command_inputs::{days_of, lines_behind, meter_input};
-use cover_questions::CoverTable;
 use desk_questions::HistoryOf;
 use page_questions::LoadPage;
 use pickup_questions::{By as PickupBy, PickupOf, read_older};
@@ -31,8 +30,8 @@ use seat_words::{
 use std::alloc::Global;
 use std::thread::Threads;
 use table_questions::{
-    BookingTable, ClassSums, DaySums, FlightSums, HistoryTable, LegSums, LoadTable, PairSums,
-    RoomTable, Table, TableOf, WaitingTable, desk_flight_table,
+    BookingTable, ClassSums, CoverTable, DaySums, FlightSums, HistoryTable, LegSums, LoadTable,
+    PairSums, RoomTable, Table, TableOf, WaitingTable, desk_flight_table,
 };
 
 /// The dated flights of a data set.

@@ -5,3 +5,4 @@ pub mod Days
 pub mod Events
 pub mod Pairs
 pub mod Classes
+mod Placing

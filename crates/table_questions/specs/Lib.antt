@@ -5,3 +5,4 @@ pub mod BookingRows
 pub mod SumRows
 pub mod HistoryRows
 pub mod FlightTable
+pub mod CoverRows

@@ -1,5 +1,5 @@
-use Rattle.cover_questions.proofs.Placing.{marked}
-use Rattle.cover_questions.proofs.cover.has_effect.Goals as goal
+use Rattle.table_questions.proofs.Placing.{marked}
+use Rattle.table_questions.proofs.cover.has_effect.Goals as goal
 
 pub returns : goal.returns
 returns c =

@@ -5,7 +5,7 @@ ghost use Rattle.seat_questions.specs.Coverage.{IsCoverage, IsSearchable};
 ghost use Rattle.seat_questions.specs.Winning.{AreWinners};
 ghost use Rattle.seat_tables.specs.Rows.{IsTable, rows_from};
 ghost use Rattle.seat_tables.specs.Sheets.{ArePut, IsReady};
-ghost use Rattle.cover_questions.specs.CoverRows.{bare_row, cover_names, cover_rows, idle_row, rows_of_flight, rows_of_leg, rows_of_row};
+ghost use Rattle.table_questions.specs.CoverRows.{bare_row, cover_names, cover_rows, idle_row, rows_of_flight, rows_of_leg, rows_of_row};
 
 use airline_base::Memory;
 use seat_desk::{DeskFault, Loaded, Question};
@@ -25,7 +25,7 @@ pub struct CoverTable {
 
 impl Question for CoverTable {
     ghost use Rattle.seat_tables.specs.Rows.{IsTable};
-    ghost use Rattle.cover_questions.specs.CoverRows.{cover_names, cover_rows};
+    ghost use Rattle.table_questions.specs.CoverRows.{cover_names, cover_rows};
 
     ghost answers = { λ asked flights rows grid journal text. IsTable asked.form cover_names (cover_rows rows flights) text };
 

@@ -2,8 +2,8 @@ use Rattle.std.proofs.Common.{ℕ, ◌≤◌, subst, sym, zero-add}
 use Rattle.seat_questions.proofs.Covers.{there, here}
 use Rattle.seat_tables.specs.Sheets.{ArePut}
 use Rattle.seat_tables.proofs.Putting.{put_more, put_none, put_whole}
-use Rattle.cover_questions.specs.CoverRows.{cover_names, rows_of_flight}
-use Rattle.cover_questions.proofs.cover.put_flights.Goals as goal
+use Rattle.table_questions.specs.CoverRows.{cover_names, rows_of_flight}
+use Rattle.table_questions.proofs.cover.put_flights.Goals as goal
 
 pub loop-index-init : goal.loop-index-init
 loop-index-init c = put_none cover_names c.args.sheet.now c.requires.ready

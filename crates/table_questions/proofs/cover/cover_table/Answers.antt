@@ -1,6 +1,6 @@
 use Rattle.std.proofs.Common.{List, Bool, subst, sym}
 use Rattle.seat_questions.specs.Winning.{AreWinners}
-use Rattle.cover_questions.proofs.cover.cover_table.Goals as goal
+use Rattle.table_questions.proofs.cover.cover_table.Goals as goal
 
 pub table_of-requires-clause-marks : goal.table_of-requires-clause-marks
 table_of-requires-clause-marks c =

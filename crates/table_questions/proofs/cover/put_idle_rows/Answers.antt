@@ -1,8 +1,8 @@
 use Rattle.std.proofs.Common.{length, refl}
 use Rattle.std.proofs.lemmas.Option.{slice_get_read}
 use Rattle.seat_tables.proofs.Putting.{put_more, put_none, put_whole}
-use Rattle.cover_questions.specs.CoverRows.{cover_names, rows_of_row}
-use Rattle.cover_questions.proofs.cover.put_idle_rows.Goals as goal
+use Rattle.table_questions.specs.CoverRows.{cover_names, rows_of_row}
+use Rattle.table_questions.proofs.cover.put_idle_rows.Goals as goal
 
 pub put_idle-requires-clause-here : goal.put_idle-requires-clause-here
 put_idle-requires-clause-here c =

@@ -3,8 +3,8 @@ use Rattle.ssim_flights.specs.declared.flight.DatedLeg.{DatedLeg}
 use Rattle.seat_tables.specs.Rows.{rows_from}
 use Rattle.seat_tables.specs.Sheets.{ArePut}
 use Rattle.seat_tables.proofs.Putting.{put_more, put_none, put_whole}
-use Rattle.cover_questions.specs.CoverRows.{cover_names, rows_of_leg}
-use Rattle.cover_questions.proofs.cover.put_legs.Goals as goal
+use Rattle.table_questions.specs.CoverRows.{cover_names, rows_of_leg}
+use Rattle.table_questions.proofs.cover.put_legs.Goals as goal
 
 pub loop-j-init : goal.loop-j-init
 loop-j-init c = put_none cover_names c.args.sheet.now c.requires.ready

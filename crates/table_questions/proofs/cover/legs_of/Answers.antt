@@ -1,5 +1,5 @@
-use Rattle.cover_questions.proofs.Placing.{legs_found}
-use Rattle.cover_questions.proofs.cover.legs_of.Goals as goal
+use Rattle.table_questions.proofs.Placing.{legs_found}
+use Rattle.table_questions.proofs.cover.legs_of.Goals as goal
 
 pub returns : goal.returns
 returns c =

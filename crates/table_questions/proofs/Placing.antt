@@ -17,7 +17,7 @@ use Rattle.seat_tables.specs.declared.cell.Cell.{Cell}
 use Rattle.seat_tables.specs.declared.sheet.Form.{Form}
 use Rattle.seat_tables.specs.declared.sheet.Sheet.{Sheet}
 use Rattle.seat_tables.proofs.Putting.{put_none}
-use Rattle.cover_questions.specs.CoverRows.{cover_names, cover_rows, row_without}
+use Rattle.table_questions.specs.CoverRows.{cover_names, cover_rows, row_without}
 
 -- nothing is lacking
 pub rows_left : (names : List (List ℕ)) (row : List Cell) (there : Bool) (sheet : Sheet) → there ≡ true → IsReady sheet
