@@ -1,2 +1,4 @@
 mod Horizons
 pub mod Sorting
+pub mod Dated
+pub mod Located

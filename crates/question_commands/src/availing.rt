@@ -5,10 +5,9 @@ ghost use Rattle.ssim_flights.specs.Right.{IsOfCentury};
 
 use crate::commands::asked_of;
 use airline_base::Day;
-use command_inputs::{days_of, meter_input};
+use command_inputs::{day_asked, days_of, flight_asked, meter_input};
 use pickup_questions::read_older;
 use progress_meter::{Lines, Meter};
-use question_words::{day_asked, flight_asked};
 use seat_availability::{
     Asked, AvailabilityOf, PartnerFault, PartnerKind, Thresholds, read_thresholds,
 };

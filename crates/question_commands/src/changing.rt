@@ -1,10 +1,9 @@
 //! `changes`: what brings the limits after a journal to those that are wanted.
 //! It knows which words name which legs and files, and nothing of how a limit comes to another.
 use crate::commands::asked_of;
-use command_inputs::days_of;
+use command_inputs::{day_asked, days_of, flight_asked, pair_asked};
 use limit_changes::{ChangesOf, LegsAsked};
 use progress_meter::Meter;
-use question_words::{day_asked, flight_asked, pair_asked};
 use seat_desk::{MOST_LIMIT_BYTES, limit_rows, read_input};
 use seat_files::{Refusal, opened};
 use seat_limits::LimitRows;

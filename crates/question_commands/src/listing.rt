@@ -6,15 +6,14 @@ ghost use Rattle.ssim_flights.specs.Right.{IsOfCentury};
 use crate::commands::{asked_of, bars_asked, page_of};
 use crate::shards::shards_asked;
 use airline_base::{Day, Locator};
-use command_inputs::{days_of, lines_behind, meter_input};
+use command_inputs::{
+    By, LocatorsFault, by_asked, day_asked, days_of, flight_asked, form_asked, lines_behind,
+    locators_asked, meter_input, page_asked, pair_asked, sums_form,
+};
 use desk_questions::HistoryOf;
 use page_questions::LoadPage;
 use pickup_questions::{By as PickupBy, PickupOf, read_older};
 use progress_meter::{Lines, Meter};
-use question_words::{
-    By, LocatorsFault, by_asked, day_asked, flight_asked, form_asked, locators_asked, page_asked,
-    pair_asked, sums_form,
-};
 use seat_desk::{DeskFault, Question};
 use seat_files::{Input, Output, Refusal, metered_output, opened, taken, told};
 use seat_lists::{BookingsOf, WaitingOf, Wanted};

@@ -9,11 +9,10 @@ use crate::commands;
 use crate::commands::Looked;
 use airline_base::Day;
 use command_inputs::{
-    behind, day_of_run, days_of, inputs_of, lines_behind, meter_each, meter_input, meter_inputs,
-    scripts_opened, seals_of, sort_out_as,
+    behind, day_of_run, days_of, form_asked, inputs_of, lines_behind, meter_each, meter_input,
+    meter_inputs, scripts_opened, seals_of, sort_out_as,
 };
 use progress_meter::{Lines, Meter};
-use question_words::form_asked;
 use reply_tables::desk_reply_table;
 use seat_desk::{DeskFault, Inputs, NO_LINES};
 use seat_files::{

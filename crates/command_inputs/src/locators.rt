@@ -1,6 +1,6 @@
 //! The locators that a question is about.
 ghost use Rattle.std.specs.Prelude.{◌≡◌, IfErr, IfOk, OnOk, map};
-ghost use Rattle.question_words.specs.Asked.{AreLocators, IsAdded, IsLocatorFault, IsLocatorsFault};
+ghost use Rattle.command_inputs.specs.Asked.{AreLocators, IsAdded, IsLocatorFault, IsLocatorsFault};
 
 use airline_base::Locator;
 use seat_words::{WordFault, locator_word};

@@ -5,9 +5,9 @@ use Rattle.std.proofs.lemmas.List.{length-map, map-append, take-map, take_all, t
 use Rattle.std.proofs.lemmas.List.Folds.{list_all-map, list_all_at, list_all_more}
 use Rattle.airline_base.specs.Names.{is_locator}
 use Rattle.seat_words.specs.declared.fault.WordFault.TheVariants.{BadLocator}
-use Rattle.question_words.specs.Asked.{AreLocators, IsAdded, IsLocatorFault, IsLocatorsFault}
-use Rattle.question_words.specs.declared.locators.LocatorsFault.{LocatorsFault}
-use Rattle.question_words.specs.declared.locators.LocatorsFault.TheVariants.{Word, Memory}
+use Rattle.command_inputs.specs.Asked.{AreLocators, IsAdded, IsLocatorFault, IsLocatorsFault}
+use Rattle.command_inputs.specs.declared.locators.LocatorsFault.{LocatorsFault}
+use Rattle.command_inputs.specs.declared.locators.LocatorsFault.TheVariants.{Word, Memory}
 
 -- ---- one word
 

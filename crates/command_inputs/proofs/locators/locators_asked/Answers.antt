@@ -1,6 +1,6 @@
 use Rattle.std.proofs.lemmas.Result.{err_from_is_err_and}
-use Rattle.question_words.proofs.Located.{spreads}
-use Rattle.question_words.proofs.locators.locators_asked.Goals as goal
+use Rattle.command_inputs.proofs.Located.{spreads}
+use Rattle.command_inputs.proofs.locators.locators_asked.Goals as goal
 
 pub returns-in_err-add_locator-clause-fault : goal.returns-in_err-add_locator-clause-fault
 returns-in_err-add_locator-clause-fault c =

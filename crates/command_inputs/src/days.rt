@@ -1,6 +1,6 @@
 //! The day that a question is about.
 ghost use Rattle.std.specs.Prelude.{◌≡◌, IfNone, IfSome, None, Ok};
-ghost use Rattle.question_words.specs.Asked.{IsDayAsked};
+ghost use Rattle.command_inputs.specs.Asked.{IsDayAsked};
 
 use airline_base::Day;
 use seat_words::{WordFault, date_word};

@@ -12,10 +12,10 @@ use Rattle.seat_words.specs.NameWords.{flight_in, pair_word_in}
 use Rattle.seat_words.specs.declared.fault.WordFault.{WordFault}
 use Rattle.seat_words.specs.declared.fault.WordFault.TheVariants.{BadBy, BadDay, BadFlight, BadForm, BadLocator, BadPair}
 use Rattle.seat_words.specs.declared.work.Shape.{Shape}
-use Rattle.question_words.specs.declared.locators.LocatorsFault.{LocatorsFault}
-use Rattle.question_words.specs.declared.locators.LocatorsFault.TheVariants.{Word, Memory}
-use Rattle.question_words.specs.declared.sums.By.{By}
-use Rattle.question_words.specs.declared.sums.By.TheVariants.{EachLeg, EachFlight, EachDay, EachPair, EachClass}
+use Rattle.command_inputs.specs.declared.locators.LocatorsFault.{LocatorsFault}
+use Rattle.command_inputs.specs.declared.locators.LocatorsFault.TheVariants.{Word, Memory}
+use Rattle.command_inputs.specs.declared.sums.By.{By}
+use Rattle.command_inputs.specs.declared.sums.By.TheVariants.{EachLeg, EachFlight, EachDay, EachPair, EachClass}
 
 -- what a word names, or else this fault
 abbrev pub named : {A : Type 0} → WordFault → Option A → Result (Option A) WordFault

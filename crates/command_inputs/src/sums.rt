@@ -1,6 +1,6 @@
 //! What the rows of sums of loads are of.
 ghost use Rattle.std.specs.Prelude.{◌≡◌, IfNone, IfSome, None, Ok};
-ghost use Rattle.question_words.specs.Asked.{by_word, kind_word, sums_asked};
+ghost use Rattle.command_inputs.specs.Asked.{by_word, kind_word, sums_asked};
 
 use seat_words::WordFault;
 

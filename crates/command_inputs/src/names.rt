@@ -1,6 +1,6 @@
 //! The flight and the pair of stations that a question is about.
 ghost use Rattle.std.specs.Prelude.{◌≡◌, IfNone, IfSome, None, Ok};
-ghost use Rattle.question_words.specs.Asked.{designator_asked, flight_of, stations_asked};
+ghost use Rattle.command_inputs.specs.Asked.{designator_asked, flight_of, stations_asked};
 
 use airline_base::{Airline, Station};
 use seat_lists::Designator;

@@ -1,6 +1,6 @@
 //! The form of the answer to a question.
 ghost use Rattle.std.specs.Prelude.{◌≡◌};
-ghost use Rattle.question_words.specs.Asked.{form_asked, page_asked, sums_form};
+ghost use Rattle.command_inputs.specs.Asked.{form_asked, page_asked, sums_form};
 
 use seat_tables::Form;
 use seat_words::{Shape, WordFault};

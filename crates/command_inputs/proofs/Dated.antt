@@ -1,7 +1,7 @@
 -- The day that a word names, or none.
 use Rattle.std.proofs.Common.{◌≡◌, ℕ, List, Option, Some, None, sym, ◌∙◌}
 use Rattle.seat_words.specs.DayWords.{IsDateWord}
-use Rattle.question_words.specs.Asked.{NamesNoDay}
+use Rattle.command_inputs.specs.Asked.{NamesNoDay}
 
 none_some : (day : ℕ) → ◌≡◌ {A = Option ℕ} None (Some day) → ⊥
 none_some day e = cc
