@@ -107,7 +107,7 @@ fn put_legs(alloc: Global, sheet: &mut Sheet, index: u32, flight: &Flight) -> Re
 }
 
 /// Adds the row of a leg.
-#[tactic(auto, using(table_questions::proofs::Tables::row_put))]
+#[tactic(auto, using(crate::proofs::Tables::row_put))]
 fn put_leg(
     alloc: Global,
     sheet: &mut Sheet,
