@@ -20,8 +20,10 @@ use crate::marking::{all_sealed, besides_in, besides_of, bytes_in, kept, marks_o
 use crate::naming::{last_of, name_at};
 use crate::placing::{Newer, newer_among, standing};
 use airline_base::{Items, Memory};
-use carry_joins::{Belongings, JoinFault, JoinedCarriage, desk_carry_joined};
-use carry_plans::{Carriage, CarryAsked, CarryFault, text_for};
+use carry_plans::{
+    Belongings, Carriage, CarryAsked, CarryFault, JoinFault, JoinedCarriage, desk_carry_joined,
+    text_for,
+};
 use command_inputs::{meter_each, meter_inputs};
 use progress_meter::{Lines, Meter};
 use seat_desk::DeskFault;

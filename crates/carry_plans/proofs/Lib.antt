@@ -9,3 +9,9 @@ mod Apart
 mod Firsts
 mod Promising
 mod Failing
+mod Adding
+mod AsOne
+mod Epochs
+mod JoinFailing
+mod Onto
+mod Seasons

@@ -3,3 +3,5 @@ pub mod Plans
 pub mod Parting
 pub mod Promises
 pub mod Failing
+pub mod Joining
+pub mod Knowing

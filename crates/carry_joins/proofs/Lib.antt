@@ -1,6 +1,0 @@
-mod Adding
-mod AsOne
-mod Epochs
-mod Failing
-mod Onto
-mod Seasons

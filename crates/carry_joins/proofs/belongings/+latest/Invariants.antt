@@ -1,5 +1,0 @@
-use Rattle.std.proofs.Common.{length}
-use Rattle.carry_joins.proofs.belongings.+latest.Given as goal
-
-abbrev pub decreases-latest : goal.decreases-latest
-decreases-latest l = length l.knowns.now
