@@ -16,7 +16,7 @@ import shutil
 
 PROGRAM = "seatdesk"
 # Crates of the program's own, on which no library stands: their functions are looked through as the program's are.
-PARTS = ["command_inputs", "question_commands", "sale_commands", "host_commands"]
+PARTS = ["command_inputs", "question_commands", "journal_commands", "host_commands"]
 # What stands for audits with scripts and for a season, which the caller refuses.
 BODILESS = ["audit_against", "started"]
 NOTHING = "{ unreachable!() }"

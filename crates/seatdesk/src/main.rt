@@ -127,7 +127,7 @@ fn carry_out<T: Threads + Wait + Clock + Sync + Copy + Send + 'static>(
         Job::Cover(asked) => done(question_commands::cover(rt, threads, meter, asked)),
         Job::Rooms(asked) => done(question_commands::rooms(rt, threads, meter, asked)),
         Job::Loads(asked) => done(question_commands::loads(rt, threads, meter, asked)),
-        Job::Run(asked) => done(sale_commands::run(rt, threads, meter, asked)),
+        Job::Run(asked) => done(journal_commands::run(rt, threads, meter, asked)),
         Job::Serve(asked) => served(rt, threads, asked),
         Job::Bookings(asked) => done(question_commands::bookings(rt, threads, meter, asked)),
         Job::Waiting(asked) => done(question_commands::waiting(rt, threads, meter, asked)),

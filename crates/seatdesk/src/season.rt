@@ -111,7 +111,7 @@ pub fn carried<T: Threads + Sync>(
     };
     let from = horizon_in(rt, staying(rt.alloc(), from)?)?;
     let to = horizon_in(rt, staying(rt.alloc(), to)?)?;
-    match carry_commands::carry(rt, threads, meter, asked, &from, &to) {
+    match journal_commands::carry(rt, threads, meter, asked, &from, &to) {
         Ok(false) => Ok(ExitCode::SUCCESS),
         Ok(true) => Ok(ExitCode::from(DIFFERS)),
         Err(refusal) => Err(Undone::Refused(refusal)),

@@ -1,5 +1,0 @@
-use Rattle.std.proofs.Common.{length}
-use Rattle.carry_commands.proofs.naming.+name_at.Given as goal
-
-abbrev pub decreases-name_at : goal.decreases-name_at
-decreases-name_at l = length l.others.now
