@@ -1,8 +1,9 @@
 //! Lines that close and open classes, spoilt in each field: a replay in order, by flights and in parts names the same line and fault.
 use crate::part_tests::{compare, fault_at, front};
-use crate::texts::{lines_of_closings, same_ladders};
-use crate::trial::{Why, entries};
-use crate::worked_set::{grid, two_legs};
+use crate::texts::{LINES_OF_CLOSINGS, SAME_LADDERS};
+use crate::trial::entries;
+use crate::wants::Why;
+use crate::worked_set::{TWO_LEGS, grid};
 use seat_journal::Entry;
 use seat_nesting::Grid;
 use seat_rules::ReplayKind::{
@@ -13,138 +14,132 @@ use std::test::Fail;
 use std::thread::Threads;
 
 /// A line in place of another of the closings, the first entry with a fault then, and the fault; no number where there is none.
-type Spoilt = (&'static [u8], usize, u32, ReplayKind);
+struct Instead(&'static [u8], usize, u32, ReplayKind);
 
 /// Line 14 opens M on a leg where two seats wait for it.
-fn opened() -> &'static [Spoilt] {
-    &[
-        (
-            b"15 0 4 V3 ST 0.0 M O OK 0 KL:2:0.0.0:M:2",
-            14,
-            14,
-            BadNumber,
-        ),
-        (
-            b"14 1 11 V3 ST 0.0 M O OK 0 KL:2:0.0.0:M:2",
-            14,
-            14,
-            BadCaller,
-        ),
-        (
-            b"14 0 5 V3 ST 0.0 M O OK 0 KL:2:0.0.0:M:2",
-            14,
-            14,
-            BadCaller,
-        ),
-        (
-            b"14 0 4 V3 ST 2.0 M O OK 0 KL:2:0.0.0:M:2",
-            14,
-            14,
-            BadCommand,
-        ),
-        (
-            b"14 0 4 V3 ST 0.2 M O OK 0 KL:2:0.0.0:M:2",
-            14,
-            14,
-            BadCommand,
-        ),
-        (
-            b"14 0 4 V3 ST 0.0 M O NO 0 KL:2:0.0.0:M:2",
-            14,
-            14,
-            OtherReply,
-        ),
-        (
-            b"14 0 4 V3 ST 0.0 Q O OK 0 KL:2:0.0.0:M:2",
-            14,
-            14,
-            OtherReply,
-        ),
-        (
-            b"14 0 4 V3 ST 0.0 M O OK 1 KL:2:0.0.0:M:2",
-            14,
-            14,
-            OtherReleased,
-        ),
-        (
-            b"14 0 4 V3 ST 0.1 M O OK 0 KL:2:0.0.0:M:2",
-            14,
-            14,
-            OtherAdvices,
-        ),
-        (
-            b"14 0 4 V3 ST 0.0 Y O OK 0 KL:2:0.0.0:M:2",
-            14,
-            14,
-            OtherAdvices,
-        ),
-        (
-            b"14 0 4 V3 ST 0.0 M C OK 0 KL:2:0.0.0:M:2",
-            14,
-            14,
-            OtherAdvices,
-        ),
-        (b"14 0 4 V3 ST 0.0 M O OK 0", 14, 14, OtherAdvices),
-        (
-            b"14 0 4 V3 ST 0.0 M O OK 0 KL:2:0.0.0:M:1",
-            14,
-            14,
-            OtherAdvices,
-        ),
-    ]
-}
+const OPENED: &[Instead] = &[
+    Instead(
+        b"15 0 4 V3 ST 0.0 M O OK 0 KL:2:0.0.0:M:2",
+        14,
+        14,
+        BadNumber,
+    ),
+    Instead(
+        b"14 1 11 V3 ST 0.0 M O OK 0 KL:2:0.0.0:M:2",
+        14,
+        14,
+        BadCaller,
+    ),
+    Instead(
+        b"14 0 5 V3 ST 0.0 M O OK 0 KL:2:0.0.0:M:2",
+        14,
+        14,
+        BadCaller,
+    ),
+    Instead(
+        b"14 0 4 V3 ST 2.0 M O OK 0 KL:2:0.0.0:M:2",
+        14,
+        14,
+        BadCommand,
+    ),
+    Instead(
+        b"14 0 4 V3 ST 0.2 M O OK 0 KL:2:0.0.0:M:2",
+        14,
+        14,
+        BadCommand,
+    ),
+    Instead(
+        b"14 0 4 V3 ST 0.0 M O NO 0 KL:2:0.0.0:M:2",
+        14,
+        14,
+        OtherReply,
+    ),
+    Instead(
+        b"14 0 4 V3 ST 0.0 Q O OK 0 KL:2:0.0.0:M:2",
+        14,
+        14,
+        OtherReply,
+    ),
+    Instead(
+        b"14 0 4 V3 ST 0.0 M O OK 1 KL:2:0.0.0:M:2",
+        14,
+        14,
+        OtherReleased,
+    ),
+    Instead(
+        b"14 0 4 V3 ST 0.1 M O OK 0 KL:2:0.0.0:M:2",
+        14,
+        14,
+        OtherAdvices,
+    ),
+    Instead(
+        b"14 0 4 V3 ST 0.0 Y O OK 0 KL:2:0.0.0:M:2",
+        14,
+        14,
+        OtherAdvices,
+    ),
+    Instead(
+        b"14 0 4 V3 ST 0.0 M C OK 0 KL:2:0.0.0:M:2",
+        14,
+        14,
+        OtherAdvices,
+    ),
+    Instead(b"14 0 4 V3 ST 0.0 M O OK 0", 14, 14, OtherAdvices),
+    Instead(
+        b"14 0 4 V3 ST 0.0 M O OK 0 KL:2:0.0.0:M:1",
+        14,
+        14,
+        OtherAdvices,
+    ),
+];
 
 /// Line 13 is for a class that the leg lacks; line 15 closes all classes of the other leg, and line 19 opens them. What they leave out the
 /// lines behind them sell, or cannot.
-fn closed() -> &'static [Spoilt] {
-    &[
-        (b"13 0 3 V3 ST 0.0 Q C OK 0", 13, 13, OtherReply),
-        (b"13 0 3 V3 ST 0.0 M C NO 0", 13, 13, OtherReply),
-        (b"13 0 3 V3 ST 0.0 * C NO 0", 13, 13, OtherReply),
-        (b"15 0 5 V3 ST 1.1 * C OK 0", 15, 16, OtherReply),
-        (b"15 0 5 V3 ST 0.0 * C OK 0", 15, 16, OtherReply),
-        (b"15 0 5 V3 ST 0.1 * O OK 0", 15, 16, OtherReply),
-        (b"15 0 5 V3 ST 0.1 F C OK 0", 15, 17, OtherReply),
-        (b"19 0 6 V3 ST 0.1 * C OK 0", 19, 20, OtherReply),
-        (b"19 0 6 V3 ST 0.1 F O OK 0", 19, 20, OtherReply),
-    ]
-}
+const CLOSED: &[Instead] = &[
+    Instead(b"13 0 3 V3 ST 0.0 Q C OK 0", 13, 13, OtherReply),
+    Instead(b"13 0 3 V3 ST 0.0 M C NO 0", 13, 13, OtherReply),
+    Instead(b"13 0 3 V3 ST 0.0 * C NO 0", 13, 13, OtherReply),
+    Instead(b"15 0 5 V3 ST 1.1 * C OK 0", 15, 16, OtherReply),
+    Instead(b"15 0 5 V3 ST 0.0 * C OK 0", 15, 16, OtherReply),
+    Instead(b"15 0 5 V3 ST 0.1 * O OK 0", 15, 16, OtherReply),
+    Instead(b"15 0 5 V3 ST 0.1 F C OK 0", 15, 17, OtherReply),
+    Instead(b"19 0 6 V3 ST 0.1 * C OK 0", 19, 20, OtherReply),
+    Instead(b"19 0 6 V3 ST 0.1 F O OK 0", 19, 20, OtherReply),
+];
 
 /// What is right too: all classes are opened where only M is closed, and only Y is sold behind an opening of all. (The kind counts for nothing.)
-fn right() -> &'static [Spoilt] {
-    &[
-        (
-            b"14 0 4 V3 ST 0.0 * O OK 0 KL:2:0.0.0:M:2",
-            14,
-            0,
-            BadNumber,
-        ),
-        (b"19 0 6 V3 ST 0.1 Y O OK 0", 19, 0, BadNumber),
-    ]
-}
+const RIGHT: &[Instead] = &[
+    Instead(
+        b"14 0 4 V3 ST 0.0 * O OK 0 KL:2:0.0.0:M:2",
+        14,
+        0,
+        BadNumber,
+    ),
+    Instead(b"19 0 6 V3 ST 0.1 Y O OK 0", 19, 0, BadNumber),
+];
 
 /// The entry that a line of a journal is.
 fn entry_of(alloc: Global, line: &[u8]) -> Result<Entry, Why> {
     let mut text = Vec::new(alloc);
     for part in [b"SEATJOURNAL 2\n".as_slice(), line, b"\nEND 1\n".as_slice()] {
         if text.extend_from_slice(part).is_err() {
-            return Err("memory");
+            return Err(Why::Memory);
         }
     }
     match entries(alloc, text.as_slice())?.as_slice() {
         [entry] => match entry.copy(alloc) {
             Ok(copy) => Ok(copy),
-            Err(_) => Err("memory"),
+            Err(_) => Err(Why::Memory),
         },
-        _ => Err("one line"),
+        _ => Err(Why::OneLine),
     }
 }
 
 /// The lines of the closings, one of them spoilt.
-fn spoilt(alloc: Global, whole: &[Entry], row: &Spoilt) -> Result<Vec<Entry>, Why> {
+fn spoilt(alloc: Global, whole: &[Entry], row: &Instead) -> Result<Vec<Entry>, Why> {
     let mut lines = front(alloc, whole, 20)?;
     let Some(line) = lines.get_mut(row.1.wrapping_sub(1)) else {
-        return Err("a line");
+        return Err(Why::Line);
     };
     *line = entry_of(alloc, row.0)?;
     Ok(lines)
@@ -155,20 +150,20 @@ fn try_spoilt<R: Threads + Sync>(
     alloc: Global,
     limits: &Grid,
     whole: &[Entry],
-    row: &Spoilt,
+    row: &Instead,
 ) -> Result<(), Why> {
     let lines = spoilt(alloc, whole, row)?;
     let given = compare(rt, alloc, limits, 99, lines.as_slice())?;
     if given.number == row.2 && (row.2 == 0 || given.kind == fault_at(row.3)) {
         Ok(())
     } else {
-        Err("the fault of a spoilt line")
+        Err(Why::SpoiltLine)
     }
 }
 
-fn try_each<R: Threads + Sync>(rt: &R, alloc: Global, rows: &[Spoilt]) -> Result<(), Why> {
-    let limits = grid(alloc, two_legs(), same_ladders()).ok_or("a grid")?;
-    let whole = entries(alloc, lines_of_closings())?;
+fn try_each<R: Threads + Sync>(rt: &R, alloc: Global, rows: &[Instead]) -> Result<(), Why> {
+    let limits = grid(alloc, TWO_LEGS, SAME_LADDERS).ok_or(Why::Grid)?;
+    let whole = entries(alloc, LINES_OF_CLOSINGS)?;
     for row in rows {
         try_spoilt(rt, alloc, &limits, whole.as_slice(), row)?;
     }
@@ -177,15 +172,15 @@ fn try_each<R: Threads + Sync>(rt: &R, alloc: Global, rows: &[Spoilt]) -> Result
 
 #[test]
 fn spoilt_openings_are_found(rt: HostRuntime) -> Result<(), Fail> {
-    Ok(try_each(&rt, rt.alloc(), opened())?)
+    Ok(try_each(&rt, rt.alloc(), OPENED)?)
 }
 
 #[test]
 fn spoilt_closes_are_found(rt: HostRuntime) -> Result<(), Fail> {
-    Ok(try_each(&rt, rt.alloc(), closed())?)
+    Ok(try_each(&rt, rt.alloc(), CLOSED)?)
 }
 
 #[test]
 fn right_lines_have_no_fault(rt: HostRuntime) -> Result<(), Fail> {
-    Ok(try_each(&rt, rt.alloc(), right())?)
+    Ok(try_each(&rt, rt.alloc(), RIGHT)?)
 }

@@ -1,6 +1,7 @@
 //! Counters by themselves: seats that are taken and given back, limits that are set under them; ladders of given steps.
-use crate::trial::{Legs, Why, place_of};
-use crate::worked_set::{grid, two_legs};
+use crate::trial::{Legs, place_of};
+use crate::wants::Why;
+use crate::worked_set::{TWO_LEGS, grid};
 use airline_base::{Class, Place};
 use seat_nesting::{Counts, Ladder, LadderFault, Step};
 use std::alloc::Global;
@@ -32,179 +33,165 @@ enum Verb {
 
 use Verb::{Classes, Fits, Gives, HasClass, Holds, Limit, Room, Sets, Takes};
 
-/// A verb, a place and a class; seats, or a limit, and a wait; whether it is so, and why.
-type Row = (Verb, Legs, u8, u16, u16, bool, Why);
+/// A verb, a place and a class; seats, or a limit, and a wait; whether it is so. Behind it stands why.
+struct Row(Verb, Legs, u8, u16, u16, bool);
 
 /// Six seats of Y are taken, and two given back.
-fn on_one_leg() -> &'static [Row] {
-    &[
-        (Room, (0, 0, 0), b'F', 10, 0, true, "the limit of F"),
-        (Room, (0, 0, 0), b'Y', 8, 0, true, "the limit of Y"),
-        (Room, (0, 0, 0), b'M', 5, 0, true, "the limit of M"),
-        (Takes, (0, 0, 0), b'Y', 6, 0, true, "six of eight"),
-        (Room, (0, 0, 0), b'F', 4, 0, true, "ten less six"),
-        (Room, (0, 0, 0), b'Y', 2, 0, true, "eight less six"),
-        (Room, (0, 0, 0), b'M', 2, 0, true, "the least of 4, 2 and 5"),
-        (Holds, (0, 0, 0), b'Y', 6, 0, true, "six in Y"),
-        (Holds, (0, 0, 0), b'Y', 7, 0, false, "and no more"),
-        (Gives, (0, 0, 0), b'Y', 2, 0, true, "two of six"),
-        (Room, (0, 0, 0), b'F', 6, 0, true, "ten less four"),
-        (Room, (0, 0, 0), b'Y', 4, 0, true, "eight less four"),
-        (Room, (0, 0, 0), b'M', 4, 0, true, "the least of 6, 4 and 5"),
-        (Takes, (0, 0, 0), b'Y', 5, 0, false, "five of four"),
-        (Gives, (0, 0, 0), b'Y', 5, 0, false, "five of four"),
-        (Room, (0, 0, 0), b'F', 6, 0, true, "F as before"),
-        (Room, (0, 0, 0), b'Y', 4, 0, true, "Y as before"),
-        (Room, (0, 0, 0), b'M', 4, 0, true, "M as before"),
-    ]
-}
+const ON_ONE_LEG: &[Row] = &[
+    Row(Room, (0, 0, 0), b'F', 10, 0, true), // the limit of F
+    Row(Room, (0, 0, 0), b'Y', 8, 0, true), // the limit of Y
+    Row(Room, (0, 0, 0), b'M', 5, 0, true), // the limit of M
+    Row(Takes, (0, 0, 0), b'Y', 6, 0, true), // six of eight
+    Row(Room, (0, 0, 0), b'F', 4, 0, true), // ten less six
+    Row(Room, (0, 0, 0), b'Y', 2, 0, true), // eight less six
+    Row(Room, (0, 0, 0), b'M', 2, 0, true), // the least of 4, 2 and 5
+    Row(Holds, (0, 0, 0), b'Y', 6, 0, true), // six in Y
+    Row(Holds, (0, 0, 0), b'Y', 7, 0, false), // and no more
+    Row(Gives, (0, 0, 0), b'Y', 2, 0, true), // two of six
+    Row(Room, (0, 0, 0), b'F', 6, 0, true), // ten less four
+    Row(Room, (0, 0, 0), b'Y', 4, 0, true), // eight less four
+    Row(Room, (0, 0, 0), b'M', 4, 0, true), // the least of 6, 4 and 5
+    Row(Takes, (0, 0, 0), b'Y', 5, 0, false), // five of four
+    Row(Gives, (0, 0, 0), b'Y', 5, 0, false), // five of four
+    Row(Room, (0, 0, 0), b'F', 6, 0, true), // F as before
+    Row(Room, (0, 0, 0), b'Y', 4, 0, true), // Y as before
+    Row(Room, (0, 0, 0), b'M', 4, 0, true), // M as before
+];
 
 /// Places and classes that are not there have no room.
-fn on_nothing() -> &'static [Row] {
-    &[
-        (Holds, (0, 0, 0), b'Q', 0, 0, false, "no class Q"),
-        (Room, (0, 0, 0), b'Q', 0, 0, true, "no class Q"),
-        (Room, (0, 0, 2), b'F', 0, 0, true, "no third leg"),
-        (Room, (0, 0, 2), b'Y', 0, 0, true, "no third leg"),
-        (Room, (0, 0, 2), b'M', 0, 0, true, "no third leg"),
-        (Room, (0, 1, 0), b'F', 0, 0, true, "no leg from 1 to 0"),
-        (Room, (0, 1, 0), b'Y', 0, 0, true, "no leg from 1 to 0"),
-        (Room, (0, 1, 0), b'M', 0, 0, true, "no leg from 1 to 0"),
-        (Room, (2, 0, 0), b'F', 0, 0, true, "no third flight"),
-        (Room, (2, 0, 0), b'Y', 0, 0, true, "no third flight"),
-        (Room, (2, 0, 0), b'M', 0, 0, true, "no third flight"),
-    ]
-}
+const ON_NOTHING: &[Row] = &[
+    Row(Holds, (0, 0, 0), b'Q', 0, 0, false), // no class Q
+    Row(Room, (0, 0, 0), b'Q', 0, 0, true), // no class Q
+    Row(Room, (0, 0, 2), b'F', 0, 0, true), // no third leg
+    Row(Room, (0, 0, 2), b'Y', 0, 0, true), // no third leg
+    Row(Room, (0, 0, 2), b'M', 0, 0, true), // no third leg
+    Row(Room, (0, 1, 0), b'F', 0, 0, true), // no leg from 1 to 0
+    Row(Room, (0, 1, 0), b'Y', 0, 0, true), // no leg from 1 to 0
+    Row(Room, (0, 1, 0), b'M', 0, 0, true), // no leg from 1 to 0
+    Row(Room, (2, 0, 0), b'F', 0, 0, true), // no third flight
+    Row(Room, (2, 0, 0), b'Y', 0, 0, true), // no third flight
+    Row(Room, (2, 0, 0), b'M', 0, 0, true), // no third flight
+];
 
 /// The second leg lacks M, and the other flight stays as it was.
-fn on_two_legs() -> &'static [Row] {
-    &[
-        (Room, (0, 0, 1), b'F', 10, 0, true, "F of both legs"),
-        (Room, (0, 0, 1), b'Y', 7, 0, true, "the least of 8 and 7"),
-        (Room, (0, 0, 1), b'M', 0, 0, true, "the second leg lacks M"),
-        (Takes, (0, 0, 1), b'Y', 6, 0, true, "six of seven"),
-        (Room, (0, 0, 0), b'F', 4, 0, true, "ten less six"),
-        (Room, (0, 0, 0), b'Y', 2, 0, true, "eight less six"),
-        (Room, (0, 0, 0), b'M', 2, 0, true, "the least of 4, 2 and 5"),
-        (Room, (0, 1, 1), b'F', 4, 0, true, "ten less six"),
-        (Room, (0, 1, 1), b'Y', 1, 0, true, "seven less six"),
-        (Room, (0, 1, 1), b'M', 0, 0, true, "the second leg lacks M"),
-        (Holds, (0, 0, 1), b'Y', 6, 0, true, "six on both legs"),
-        (Holds, (0, 0, 1), b'Y', 7, 0, false, "and no more"),
-        (Holds, (0, 1, 1), b'Y', 6, 0, true, "six on the second leg"),
-        (Holds, (0, 1, 1), b'Y', 7, 0, false, "and no more"),
-        (Gives, (0, 0, 1), b'F', 1, 0, false, "none is held in F"),
-        (Gives, (0, 0, 1), b'M', 0, 0, false, "no M on that leg"),
-        (Gives, (0, 1, 1), b'Y', 2, 0, true, "two of six"),
-        (Room, (0, 0, 0), b'F', 4, 0, true, "F as before"),
-        (Room, (0, 0, 0), b'Y', 2, 0, true, "Y as before"),
-        (Room, (0, 0, 0), b'M', 2, 0, true, "M as before"),
-        (Room, (0, 1, 1), b'F', 6, 0, true, "ten less four"),
-        (Room, (0, 1, 1), b'Y', 3, 0, true, "seven less four"),
-        (Room, (0, 1, 1), b'M', 0, 0, true, "the second leg lacks M"),
-        (Holds, (0, 0, 1), b'Y', 4, 0, true, "four on both legs"),
-        (Holds, (0, 0, 1), b'Y', 5, 0, false, "and no more"),
-        (Room, (1, 0, 1), b'F', 10, 0, true, "F of the other flight"),
-        (Room, (1, 0, 1), b'Y', 7, 0, true, "Y of the other flight"),
-        (Room, (1, 0, 1), b'M', 0, 0, true, "M of the other flight"),
-    ]
-}
+const ON_TWO_LEGS: &[Row] = &[
+    Row(Room, (0, 0, 1), b'F', 10, 0, true), // F of both legs
+    Row(Room, (0, 0, 1), b'Y', 7, 0, true), // the least of 8 and 7
+    Row(Room, (0, 0, 1), b'M', 0, 0, true), // the second leg lacks M
+    Row(Takes, (0, 0, 1), b'Y', 6, 0, true), // six of seven
+    Row(Room, (0, 0, 0), b'F', 4, 0, true), // ten less six
+    Row(Room, (0, 0, 0), b'Y', 2, 0, true), // eight less six
+    Row(Room, (0, 0, 0), b'M', 2, 0, true), // the least of 4, 2 and 5
+    Row(Room, (0, 1, 1), b'F', 4, 0, true), // ten less six
+    Row(Room, (0, 1, 1), b'Y', 1, 0, true), // seven less six
+    Row(Room, (0, 1, 1), b'M', 0, 0, true), // the second leg lacks M
+    Row(Holds, (0, 0, 1), b'Y', 6, 0, true), // six on both legs
+    Row(Holds, (0, 0, 1), b'Y', 7, 0, false), // and no more
+    Row(Holds, (0, 1, 1), b'Y', 6, 0, true), // six on the second leg
+    Row(Holds, (0, 1, 1), b'Y', 7, 0, false), // and no more
+    Row(Gives, (0, 0, 1), b'F', 1, 0, false), // none is held in F
+    Row(Gives, (0, 0, 1), b'M', 0, 0, false), // no M on that leg
+    Row(Gives, (0, 1, 1), b'Y', 2, 0, true), // two of six
+    Row(Room, (0, 0, 0), b'F', 4, 0, true), // F as before
+    Row(Room, (0, 0, 0), b'Y', 2, 0, true), // Y as before
+    Row(Room, (0, 0, 0), b'M', 2, 0, true), // M as before
+    Row(Room, (0, 1, 1), b'F', 6, 0, true), // ten less four
+    Row(Room, (0, 1, 1), b'Y', 3, 0, true), // seven less four
+    Row(Room, (0, 1, 1), b'M', 0, 0, true), // the second leg lacks M
+    Row(Holds, (0, 0, 1), b'Y', 4, 0, true), // four on both legs
+    Row(Holds, (0, 0, 1), b'Y', 5, 0, false), // and no more
+    Row(Room, (1, 0, 1), b'F', 10, 0, true), // F of the other flight
+    Row(Room, (1, 0, 1), b'Y', 7, 0, true), // Y of the other flight
+    Row(Room, (1, 0, 1), b'M', 0, 0, true), // M of the other flight
+];
 
 /// Six seats are held in Y.
-fn limits_that_are_set() -> &'static [Row] {
-    &[
-        (Takes, (0, 0, 0), b'Y', 6, 0, true, "six of eight"),
-        (Room, (0, 0, 0), b'F', 4, 0, true, "ten less six"),
-        (Room, (0, 0, 0), b'Y', 2, 0, true, "eight less six"),
-        (Room, (0, 0, 0), b'M', 2, 0, true, "the least of 4, 2 and 5"),
-        (Sets, (0, 0, 0), b'M', 7, 4, true, "7 is below Y's 8"),
-        (Room, (0, 0, 0), b'F', 4, 0, true, "ten less six"),
-        (Room, (0, 0, 0), b'Y', 2, 0, true, "eight less six"),
-        (Room, (0, 0, 0), b'M', 2, 0, true, "the least of 4, 2 and 7"),
-        (Sets, (0, 0, 0), b'Y', 9, 0, true, "9 lies between 10 and 7"),
-        (Room, (0, 0, 0), b'F', 4, 0, true, "ten less six"),
-        (Room, (0, 0, 0), b'Y', 3, 0, true, "nine less six"),
-        (Room, (0, 0, 0), b'M', 3, 0, true, "the least of 4, 3 and 7"),
-        (Sets, (0, 0, 0), b'M', 2, 5, true, "no seat is held in M"),
-        (Room, (0, 0, 0), b'F', 4, 0, true, "ten less six"),
-        (Room, (0, 0, 0), b'Y', 3, 0, true, "nine less six"),
-        (Room, (0, 0, 0), b'M', 2, 0, true, "the least of 4, 3 and 2"),
-        (Sets, (0, 0, 0), b'Y', 6, 0, true, "six seats are held in Y"),
-        (Room, (0, 0, 0), b'F', 4, 0, true, "ten less six"),
-        (Room, (0, 0, 0), b'Y', 0, 0, true, "six less six"),
-        (Room, (0, 0, 0), b'M', 0, 0, true, "the least of 4, 0 and 2"),
-        (Sets, (0, 0, 0), b'F', 999, 999, true, "999 and 999"),
-        (Room, (0, 0, 0), b'F', 993, 0, true, "999 less six"),
-        (Room, (0, 0, 0), b'Y', 0, 0, true, "six less six"),
-        (Room, (0, 0, 0), b'M', 0, 0, true, "none is left in Y"),
-        (Limit, (0, 0, 0), b'F', 999, 999, true, "the limit of F"),
-        (Limit, (0, 0, 0), b'Y', 6, 0, true, "the limit of Y"),
-        (Limit, (0, 0, 0), b'M', 2, 5, true, "the limit of M"),
-        (Limit, (0, 1, 1), b'F', 10, 0, true, "the limit of F there"),
-        (Limit, (0, 1, 1), b'Y', 7, 0, true, "the limit of Y there"),
-    ]
-}
+const LIMITS_THAT_ARE_SET: &[Row] = &[
+    Row(Takes, (0, 0, 0), b'Y', 6, 0, true), // six of eight
+    Row(Room, (0, 0, 0), b'F', 4, 0, true), // ten less six
+    Row(Room, (0, 0, 0), b'Y', 2, 0, true), // eight less six
+    Row(Room, (0, 0, 0), b'M', 2, 0, true), // the least of 4, 2 and 5
+    Row(Sets, (0, 0, 0), b'M', 7, 4, true), // 7 is below Y's 8
+    Row(Room, (0, 0, 0), b'F', 4, 0, true), // ten less six
+    Row(Room, (0, 0, 0), b'Y', 2, 0, true), // eight less six
+    Row(Room, (0, 0, 0), b'M', 2, 0, true), // the least of 4, 2 and 7
+    Row(Sets, (0, 0, 0), b'Y', 9, 0, true), // 9 lies between 10 and 7
+    Row(Room, (0, 0, 0), b'F', 4, 0, true), // ten less six
+    Row(Room, (0, 0, 0), b'Y', 3, 0, true), // nine less six
+    Row(Room, (0, 0, 0), b'M', 3, 0, true), // the least of 4, 3 and 7
+    Row(Sets, (0, 0, 0), b'M', 2, 5, true), // no seat is held in M
+    Row(Room, (0, 0, 0), b'F', 4, 0, true), // ten less six
+    Row(Room, (0, 0, 0), b'Y', 3, 0, true), // nine less six
+    Row(Room, (0, 0, 0), b'M', 2, 0, true), // the least of 4, 3 and 2
+    Row(Sets, (0, 0, 0), b'Y', 6, 0, true), // six seats are held in Y
+    Row(Room, (0, 0, 0), b'F', 4, 0, true), // ten less six
+    Row(Room, (0, 0, 0), b'Y', 0, 0, true), // six less six
+    Row(Room, (0, 0, 0), b'M', 0, 0, true), // the least of 4, 0 and 2
+    Row(Sets, (0, 0, 0), b'F', 999, 999, true), // 999 and 999
+    Row(Room, (0, 0, 0), b'F', 993, 0, true), // 999 less six
+    Row(Room, (0, 0, 0), b'Y', 0, 0, true), // six less six
+    Row(Room, (0, 0, 0), b'M', 0, 0, true), // none is left in Y
+    Row(Limit, (0, 0, 0), b'F', 999, 999, true), // the limit of F
+    Row(Limit, (0, 0, 0), b'Y', 6, 0, true), // the limit of Y
+    Row(Limit, (0, 0, 0), b'M', 2, 5, true), // the limit of M
+    Row(Limit, (0, 1, 1), b'F', 10, 0, true), // the limit of F there
+    Row(Limit, (0, 1, 1), b'Y', 7, 0, true), // the limit of Y there
+];
 
 /// Six seats are held in Y, and no limit changes.
-fn limits_that_may_not_be_set() -> &'static [Row] {
-    &[
-        (Takes, (0, 0, 0), b'Y', 6, 0, true, "six of eight"),
-        (Sets, (0, 0, 0), b'M', 9, 4, false, "9 is above Y's 8"),
-        (Sets, (0, 0, 0), b'Y', 11, 0, false, "11 is above F's 10"),
-        (Sets, (0, 0, 0), b'Y', 4, 0, false, "4 is below M's 5"),
-        (Sets, (0, 0, 0), b'F', 7, 0, false, "7 is below Y's 8"),
-        (Sets, (0, 0, 0), b'Y', 5, 0, false, "six are held in Y"),
-        (Sets, (0, 0, 0), b'F', 1000, 0, false, "a limit of 1000"),
-        (Sets, (0, 0, 0), b'M', 5, 1000, false, "a wait of 1000"),
-        (Sets, (0, 0, 0), b'Q', 1, 0, false, "no class Q"),
-        (Sets, (0, 1, 1), b'M', 1, 0, false, "no M on the second leg"),
-        (Sets, (0, 2, 2), b'F', 1, 0, false, "no third leg"),
-        (Sets, (2, 0, 0), b'F', 1, 0, false, "no third flight"),
-        (Room, (0, 0, 0), b'F', 4, 0, true, "ten less six"),
-        (Room, (0, 0, 0), b'Y', 2, 0, true, "eight less six"),
-        (Room, (0, 0, 0), b'M', 2, 0, true, "the least of 4, 2 and 5"),
-        (Limit, (0, 0, 0), b'F', 10, 0, true, "the limit of F"),
-        (Limit, (0, 0, 0), b'Y', 8, 0, true, "the limit of Y"),
-        (Limit, (0, 0, 0), b'M', 5, 4, true, "the limit of M"),
-    ]
-}
+const LIMITS_THAT_MAY_NOT_BE_SET: &[Row] = &[
+    Row(Takes, (0, 0, 0), b'Y', 6, 0, true), // six of eight
+    Row(Sets, (0, 0, 0), b'M', 9, 4, false), // 9 is above Y's 8
+    Row(Sets, (0, 0, 0), b'Y', 11, 0, false), // 11 is above F's 10
+    Row(Sets, (0, 0, 0), b'Y', 4, 0, false), // 4 is below M's 5
+    Row(Sets, (0, 0, 0), b'F', 7, 0, false), // 7 is below Y's 8
+    Row(Sets, (0, 0, 0), b'Y', 5, 0, false), // six are held in Y
+    Row(Sets, (0, 0, 0), b'F', 1000, 0, false), // a limit of 1000
+    Row(Sets, (0, 0, 0), b'M', 5, 1000, false), // a wait of 1000
+    Row(Sets, (0, 0, 0), b'Q', 1, 0, false), // no class Q
+    Row(Sets, (0, 1, 1), b'M', 1, 0, false), // no M on the second leg
+    Row(Sets, (0, 2, 2), b'F', 1, 0, false), // no third leg
+    Row(Sets, (2, 0, 0), b'F', 1, 0, false), // no third flight
+    Row(Room, (0, 0, 0), b'F', 4, 0, true), // ten less six
+    Row(Room, (0, 0, 0), b'Y', 2, 0, true), // eight less six
+    Row(Room, (0, 0, 0), b'M', 2, 0, true), // the least of 4, 2 and 5
+    Row(Limit, (0, 0, 0), b'F', 10, 0, true), // the limit of F
+    Row(Limit, (0, 0, 0), b'Y', 8, 0, true), // the limit of Y
+    Row(Limit, (0, 0, 0), b'M', 5, 4, true), // the limit of M
+];
 
 /// A limit that was lowered may be set to what it was.
-fn a_limit_that_is_set_back() -> &'static [Row] {
-    &[
-        (Takes, (0, 0, 0), b'M', 3, 0, true, "three of five"),
-        (Room, (0, 0, 0), b'F', 7, 0, true, "ten less three"),
-        (Room, (0, 0, 0), b'Y', 5, 0, true, "eight less three"),
-        (Room, (0, 0, 0), b'M', 2, 0, true, "five less three"),
-        (Sets, (0, 0, 0), b'M', 3, 0, true, "three are held in M"),
-        (Room, (0, 0, 0), b'F', 7, 0, true, "ten less three"),
-        (Room, (0, 0, 0), b'Y', 5, 0, true, "eight less three"),
-        (Room, (0, 0, 0), b'M', 0, 0, true, "three less three"),
-        (Sets, (0, 0, 0), b'M', 5, 4, true, "what it was"),
-        (Room, (0, 0, 0), b'F', 7, 0, true, "ten less three"),
-        (Room, (0, 0, 0), b'Y', 5, 0, true, "eight less three"),
-        (Room, (0, 0, 0), b'M', 2, 0, true, "five less three"),
-        (Limit, (0, 0, 0), b'M', 5, 4, true, "the limit of M"),
-    ]
-}
+const A_LIMIT_THAT_IS_SET_BACK: &[Row] = &[
+    Row(Takes, (0, 0, 0), b'M', 3, 0, true), // three of five
+    Row(Room, (0, 0, 0), b'F', 7, 0, true), // ten less three
+    Row(Room, (0, 0, 0), b'Y', 5, 0, true), // eight less three
+    Row(Room, (0, 0, 0), b'M', 2, 0, true), // five less three
+    Row(Sets, (0, 0, 0), b'M', 3, 0, true), // three are held in M
+    Row(Room, (0, 0, 0), b'F', 7, 0, true), // ten less three
+    Row(Room, (0, 0, 0), b'Y', 5, 0, true), // eight less three
+    Row(Room, (0, 0, 0), b'M', 0, 0, true), // three less three
+    Row(Sets, (0, 0, 0), b'M', 5, 4, true), // what it was
+    Row(Room, (0, 0, 0), b'F', 7, 0, true), // ten less three
+    Row(Room, (0, 0, 0), b'Y', 5, 0, true), // eight less three
+    Row(Room, (0, 0, 0), b'M', 2, 0, true), // five less three
+    Row(Limit, (0, 0, 0), b'M', 5, 4, true), // the limit of M
+];
 
 /// Legs, classes and places.
-fn what_is_there() -> &'static [Row] {
-    &[
-        (Classes, (0, 1, 1), b'F', 2, 0, true, "F and Y"),
-        (Classes, (0, 2, 2), b'F', 0, 0, true, "no third leg"),
-        (Classes, (2, 0, 0), b'F', 0, 0, true, "no third flight"),
-        (HasClass, (0, 1, 1), b'M', 0, 0, false, "no M there"),
-        (Fits, (1, 0, 1), b'F', 0, 0, true, "both legs of flight 1"),
-        (Fits, (1, 0, 2), b'F', 0, 0, false, "no third leg"),
-    ]
-}
+const WHAT_IS_THERE: &[Row] = &[
+    Row(Classes, (0, 1, 1), b'F', 2, 0, true), // F and Y
+    Row(Classes, (0, 2, 2), b'F', 0, 0, true), // no third leg
+    Row(Classes, (2, 0, 0), b'F', 0, 0, true), // no third flight
+    Row(HasClass, (0, 1, 1), b'M', 0, 0, false), // no M there
+    Row(Fits, (1, 0, 1), b'F', 0, 0, true), // both legs of flight 1
+    Row(Fits, (1, 0, 2), b'F', 0, 0, false), // no third leg
+];
 
 /// Over flights of two legs, of which the second lacks M.
 fn counts(alloc: Global) -> Option<Counts> {
     let limits = b"AU XX123 15JUN24 16JUN24 LHRJFK F010/000 Y008/000 M005/004
 AU XX123 15JUN24 16JUN24 JFKLAX F010/000 Y007/000";
-    let grid = grid(alloc, two_legs(), limits)?;
+    let grid = grid(alloc, TWO_LEGS, limits)?;
     Counts::new(alloc, &grid).ok()
 }
 
@@ -279,36 +266,38 @@ fn is_so(counts: &mut Counts, row: &Row) -> bool {
     }
 }
 
-/// Goes through the rows with counters of their own.
-fn follow(alloc: Global, rows: &[Row]) -> Result<(), Why> {
-    let mut counts = counts(alloc).ok_or("counters")?;
-    for row in rows {
-        if !is_so(&mut counts, row) {
-            return Err(row.6);
+/// Goes through the rows of a table with counters of their own.
+fn follow(alloc: Global, table: usize, rows: &[Row]) -> Result<(), Why> {
+    let Some(mut counts) = counts(alloc) else {
+        return Err(Why::Counters);
+    };
+    for at in 0..rows.len() {
+        if !is_so(&mut counts, &rows[at]) {
+            return Err(Why::Row(table, at));
         }
     }
     Ok(())
 }
 
 fn follow_each(alloc: Global, tables: &[&[Row]]) -> Result<(), Why> {
-    for rows in tables {
-        follow(alloc, rows)?;
+    for table in 0..tables.len() {
+        follow(alloc, table, tables[table])?;
     }
     Ok(())
 }
 
 #[test]
 fn rooms_follow_the_seats(rt: HostRuntime) -> Result<(), Fail> {
-    Ok(follow_each(rt.alloc(), &[on_one_leg(), on_nothing(), on_two_legs()])?)
+    Ok(follow_each(rt.alloc(), &[ON_ONE_LEG, ON_NOTHING, ON_TWO_LEGS])?)
 }
 
 #[test]
 fn limits_are_set_between_their_neighbours(rt: HostRuntime) -> Result<(), Fail> {
     let tables = [
-        limits_that_are_set(),
-        limits_that_may_not_be_set(),
-        a_limit_that_is_set_back(),
-        what_is_there(),
+        LIMITS_THAT_ARE_SET,
+        LIMITS_THAT_MAY_NOT_BE_SET,
+        A_LIMIT_THAT_IS_SET_BACK,
+        WHAT_IS_THERE,
     ];
     Ok(follow_each(rt.alloc(), &tables)?)
 }

@@ -1,6 +1,7 @@
 //! Reading and writing over devices that fail, stop early or take little at a time.
 use crate::failing::{FailingReader, FailingWriter, Stop};
-use crate::worked_set::{no_legs, records};
+use crate::wants::Why;
+use crate::worked_set::{NO_LEGS, records};
 use airline_base::{Counted, Failures, ReadFault, put_all, read_all};
 use std::alloc::Global;
 use std::io::Write;
@@ -9,33 +10,38 @@ use std::test::Fail;
 
 const TEXT: [u8; 5] = *b"EFGHI";
 
-/// Whether reading the text byte by byte from a device that fails at this read has this fault, or gives the text.
-fn reads(
-    alloc: Global,
-    input: &mut Counted<FailingReader<'_>>,
-    max: u64,
-    want: Option<ReadFault>,
-) -> bool {
-    match read_all(alloc, input, max) {
+/// At which read the device fails, how many bytes there may be, what fault there is, and how many failures are counted.
+type Reading = (u64, u64, Option<ReadFault>, u64);
+
+const READINGS: [Reading; 6] = [
+    (9, 5, None, 0),
+    (9, 9, None, 0),
+    (9, 4, Some(ReadFault::TooLarge), 0),
+    (0, 9, Some(ReadFault::Device), 1),
+    (4, 9, Some(ReadFault::Device), 1),
+    (5, 9, Some(ReadFault::Device), 1),
+];
+
+/// Whether reading the text byte by byte has this fault, or gives the text.
+fn reads(alloc: Global, row: Reading) -> bool {
+    let (fails_at, max, want, failures) = row;
+    let mut input = Counted::new(FailingReader::new(TEXT.as_slice(), 1, fails_at));
+    let is_right = match read_all(alloc, &mut input, max) {
         Ok(bytes) => want.is_none() && bytes.as_slice() == TEXT.as_slice(),
         Err(fault) => want == Some(fault),
-    }
+    };
+    is_right && input.failures() == failures
 }
 
 #[test]
 fn reads_until_the_end(rt: HostRuntime) {
-    let rows: [(u64, u64, Option<ReadFault>, u64); 6] = [
-        (9, 5, None, 0),
-        (9, 9, None, 0),
-        (9, 4, Some(ReadFault::TooLarge), 0),
-        (0, 9, Some(ReadFault::Device), 1),
-        (4, 9, Some(ReadFault::Device), 1),
-        (5, 9, Some(ReadFault::Device), 1),
-    ];
-    for (fails_at, max, want, failures) in rows {
-        let mut input = Counted::new(FailingReader::new(TEXT.as_slice(), 1, fails_at));
-        let is_right = reads(rt.alloc(), &mut input, max, want) && input.failures() == failures;
-        assert!(rt; is_right, "at most {max}, failing at {fails_at}");
+    for row in READINGS {
+        assert!(rt;
+            reads(rt.alloc(), row),
+            "at most {}, failing at {}",
+            row.1,
+            row.0
+        );
     }
 }
 
@@ -57,7 +63,7 @@ fn reads_more_than_a_piece(rt: HostRuntime) {
 
 #[test]
 fn reads_a_data_set_of_600_bytes(rt: HostRuntime) -> Result<(), Fail> {
-    let set = records(rt.alloc(), no_legs()).ok_or("a set")?;
+    let set = records(rt.alloc(), NO_LEGS).ok_or(Why::Set)?;
     assert!(rt; len_of(rt.alloc(), set.as_slice(), 599) == Err(ReadFault::TooLarge));
     assert!(rt; len_of(rt.alloc(), set.as_slice(), 600) == Ok(600));
     Ok(())

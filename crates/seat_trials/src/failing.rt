@@ -69,9 +69,9 @@ impl Write for FailingWriter {
             };
         }
         self.left -= 1;
-        let (front, _) = buf.split_at(self.piece.max(1).min(buf.len()));
-        self.inner.extend_from_slice(front)?;
-        Ok(front.len())
+        let most = self.piece.max(1).min(buf.len());
+        self.inner.extend_from_slice(&buf[..most])?;
+        Ok(most)
     }
 
     fn flush(&mut self) -> io::Result<()> {

@@ -1,20 +1,22 @@
 //! Want of memory: a call that is refused changes nothing that a call shows, and is answered when it comes again.
 //! Each of these tests passes with any one growth refused.
-use crate::texts::{lines_of_flight_1, no_lines, same_ladders, seven_lines};
-use crate::trial::{Trial, Why, are_same, entries, is_memory, is_same, is_text, place_of};
-use crate::worked_set::{grid, two_legs};
+use crate::texts::{LINES_OF_FLIGHT_1, NO_LINES, SAME_LADDERS, SEVEN_LINES};
+use crate::trial::{Trial, are_same, entries, is_memory, is_same, is_text, place_of};
+use crate::wants::Why;
+use crate::worked_set::{TWO_LEGS, grid};
 use airline_base::Class;
 use seat_journal::Entry;
-use seat_nesting::{Counts, Grid, Step};
+use seat_nesting::{Counts, Grid};
 use std::alloc::Global;
+use std::process::Abort;
 use std::test::Fail;
 
 fn open(alloc: Global) -> Result<Trial, Why> {
-    Trial::of_two_legs(alloc, same_ladders(), 7)
+    Trial::of_two_legs(alloc, SAME_LADDERS, 7)
 }
 
 fn open_grid(alloc: Global) -> Result<Grid, Why> {
-    grid(alloc, two_legs(), same_ladders()).ok_or("a grid")
+    grid(alloc, TWO_LEGS, SAME_LADDERS).ok_or(Why::Grid)
 }
 
 /// How a line comes to be added.
@@ -35,7 +37,7 @@ fn add(trial: &mut Trial, way: Way, line: &Entry) -> Result<bool, Why> {
             if are_same(entry, line) {
                 Ok(true)
             } else {
-                Err("another line")
+                Err(Why::OtherLine)
             }
         }
         Err(why) => { if is_memory(why) { Ok(false) } else { Err(why) } }
@@ -52,39 +54,32 @@ fn add_again(trial: &mut Trial, way: Way, line: &Entry) -> Result<(), Why> {
     if add(trial, way, line)? {
         return Ok(());
     }
-    Err("a line once more")
-}
-
-fn fill(trial: &mut Trial, way: Way, lines: &[Entry]) -> Result<(), Why> {
-    for line in lines {
-        add_again(trial, way, line)?;
-    }
-    trial.has_text(seven_lines())
+    Err(Why::OnceMore)
 }
 
 /// An inventory with the seven lines, the last of which is a change.
 fn filled(alloc: Global, way: Way) -> Result<Trial, Why> {
-    let lines = entries(alloc, seven_lines())?;
+    let lines = entries(alloc, SEVEN_LINES)?;
     let mut trial = open(alloc)?;
-    fill(&mut trial, way, lines.as_slice())?;
+    for line in lines.as_slice() {
+        add_again(&mut trial, way, line)?;
+    }
+    trial.has_text(SEVEN_LINES)?;
     Ok(trial)
 }
 
 /// No lines, and the rooms of the limits.
-fn open_again(alloc: Global) -> Result<(), Why> {
-    let trial = open(alloc)?;
-    if trial.has_room(place_of((0, 0, 1)), b'Y', 8)
+fn is_open(trial: &Trial) -> bool {
+    trial.has_room(place_of((0, 0, 1)), b'Y', 8)
         && trial.has_room(place_of((1, 1, 1)), b'M', 5)
-    {
-        trial.has_text(no_lines())
-    } else {
-        Err("the rooms of the limits")
-    }
+        && is_text(trial.journal(), NO_LINES)
 }
 
 #[test]
 fn opens_again(rt: HostRuntime) -> Result<(), Fail> {
-    Ok(open_again(rt.alloc())?)
+    let trial = open(rt.alloc())?;
+    assert!(rt; is_open(&trial), "no lines, and the rooms of the limits");
+    Ok(())
 }
 
 #[test]
@@ -99,35 +94,27 @@ fn steps_again(rt: HostRuntime) -> Result<(), Fail> {
     Ok(())
 }
 
-fn try_part(trial: &Trial) -> Result<Trial, Why> {
-    trial.part(1)
-}
-
 /// The part of flight 1; a refused call is made again.
 fn part_of(trial: &Trial) -> Result<Trial, Why> {
-    match try_part(trial) {
+    match trial.part(1) {
         Ok(part) => Ok(part),
-        Err(_) => try_part(trial),
+        Err(_) => trial.part(1),
     }
-}
-
-fn part_again(alloc: Global) -> Result<(), Why> {
-    let trial = filled(alloc, Way::Steps)?;
-    let before = trial.shown();
-    let part = part_of(&trial)?;
-    is_same(&trial, before)?;
-    part.has_text(lines_of_flight_1())
 }
 
 #[test]
 fn parts_again(rt: HostRuntime) -> Result<(), Fail> {
-    Ok(part_again(rt.alloc())?)
+    let trial = filled(rt.alloc(), Way::Steps)?;
+    let before = trial.shown();
+    let part = part_of(&trial)?;
+    is_same(&trial, before)?;
+    Ok(part.has_text(LINES_OF_FLIGHT_1)?)
 }
 
 fn try_replay(alloc: Global, trial: &Trial) -> Result<Trial, Why> {
-    match grid(alloc, two_legs(), same_ladders()) {
+    match grid(alloc, TWO_LEGS, SAME_LADDERS) {
         Some(grid) => trial.again(grid, 7),
-        None => Err("a grid"),
+        None => Err(Why::Grid),
     }
 }
 
@@ -145,59 +132,35 @@ fn replayed(alloc: Global, trial: &Trial) -> Result<Trial, Why> {
     }
 }
 
-fn replay_again(alloc: Global) -> Result<(), Why> {
-    let trial = filled(alloc, Way::Steps)?;
-    let before = trial.shown();
-    let again = replayed(alloc, &trial)?;
-    is_same(&trial, before)?;
-    is_same(&again, before)
-}
-
 #[test]
 fn replays_again(rt: HostRuntime) -> Result<(), Fail> {
-    Ok(replay_again(rt.alloc())?)
+    let trial = filled(rt.alloc(), Way::Steps)?;
+    let before = trial.shown();
+    let again = replayed(rt.alloc(), &trial)?;
+    is_same(&trial, before)?;
+    Ok(is_same(&again, before)?)
 }
 
-fn copy_again(alloc: Global, entry: &Entry) -> Result<Entry, Why> {
+/// Whether a copy says the same. A refused growth is tried again.
+fn is_copied(alloc: Global, entry: &Entry) -> bool {
     match entry.copy(alloc) {
-        Ok(copy) => Ok(copy),
+        Ok(copy) => are_same(&copy, entry),
         Err(_) => match entry.copy(alloc) {
-            Ok(copy) => Ok(copy),
-            Err(_) => Err("a copy once more"),
+            Ok(copy) => are_same(&copy, entry),
+            Err(_) => false,
         },
     }
 }
 
-/// Copies each entry, which stays as it is.
-fn copy_all(alloc: Global, all: &[Entry]) -> Result<(), Why> {
-    for entry in all {
-        if !is_copied(alloc, entry) {
-            return Err("a copy of a line");
-        }
-    }
-    Ok(())
-}
-
-fn is_copied(alloc: Global, entry: &Entry) -> bool {
-    match copy_again(alloc, entry) {
-        Ok(copy) => are_same(&copy, entry),
-        Err(_) => false,
-    }
-}
-
-fn copy_lines(alloc: Global) -> Result<(), Why> {
-    let lines = entries(alloc, seven_lines())?;
-    copy_all(alloc, lines.as_slice())?;
-    if is_text(lines.as_slice(), seven_lines()) {
-        Ok(())
-    } else {
-        Err("other lines")
-    }
-}
-
+/// Each entry stays as it is.
 #[test]
 fn copies_an_entry_again(rt: HostRuntime) -> Result<(), Fail> {
-    Ok(copy_lines(rt.alloc())?)
+    let lines = entries(rt.alloc(), SEVEN_LINES)?;
+    for line in lines.as_slice() {
+        assert!(rt; is_copied(rt.alloc(), line), "a copy of a line");
+    }
+    assert!(rt; is_text(lines.as_slice(), SEVEN_LINES), "other lines");
+    Ok(())
 }
 
 fn copy_of(alloc: Global, grid: &Grid) -> Result<Grid, Why> {
@@ -205,34 +168,27 @@ fn copy_of(alloc: Global, grid: &Grid) -> Result<Grid, Why> {
         Ok(copy) => Ok(copy),
         Err(_) => match grid.copy(alloc) {
             Ok(copy) => Ok(copy),
-            Err(_) => Err("a grid once more"),
+            Err(_) => Err(Why::OnceMore),
         },
     }
 }
 
-/// Compares the ladders of two grids on the legs of flights 0 and 1.
-fn same_limits(one: &Grid, other: &Grid) -> Result<(), Why> {
-    for (flight, leg) in [(0, 0), (0, 1), (1, 0), (1, 1)] {
-        if !are_three(one.steps(flight, leg), other.steps(flight, leg)) {
-            return Err("the ladder of a leg");
-        }
-    }
-    Ok(())
-}
-
-fn are_three(one: &[Step], other: &[Step]) -> bool {
-    one.len() == 3 && one == other
-}
-
-fn copy_grid(alloc: Global) -> Result<(), Why> {
-    let grid = open_grid(alloc)?;
-    let copy = copy_of(alloc, &grid)?;
-    same_limits(&grid, &copy)
+/// Whether a leg has a ladder of three classes in one grid, and the same in the other.
+fn has_same(one: &Grid, other: &Grid, flight: u32, leg: u8) -> bool {
+    let steps = one.steps(flight, leg);
+    steps.len() == 3 && steps == other.steps(flight, leg)
 }
 
 #[test]
 fn copies_a_grid_again(rt: HostRuntime) -> Result<(), Fail> {
-    Ok(copy_grid(rt.alloc())?)
+    let grid = open_grid(rt.alloc())?;
+    let copy = copy_of(rt.alloc(), &grid)?;
+    for flight in 0..2 {
+        for leg in 0..2 {
+            assert!(rt; has_same(&grid, &copy, flight, leg), "the ladder of a leg");
+        }
+    }
+    Ok(())
 }
 
 fn counts_of(alloc: Global, grid: &Grid) -> Result<Counts, Why> {
@@ -240,7 +196,7 @@ fn counts_of(alloc: Global, grid: &Grid) -> Result<Counts, Why> {
         Ok(counts) => Ok(counts),
         Err(_) => match Counts::new(alloc, grid) {
             Ok(counts) => Ok(counts),
-            Err(_) => Err("counters once more"),
+            Err(_) => Err(Why::OnceMore),
         },
     }
 }
@@ -252,22 +208,11 @@ fn room(counts: &Counts, letter: u8) -> u16 {
     }
 }
 
-/// No seat is held: the rooms are those of the limits.
-fn has_limits(counts: &Counts) -> Result<(), Why> {
-    if room(counts, b'F') == 10 && room(counts, b'Y') == 8 && room(counts, b'M') == 5 {
-        Ok(())
-    } else {
-        Err("no seat is held")
-    }
-}
-
-fn count_again(alloc: Global) -> Result<(), Why> {
-    let grid = open_grid(alloc)?;
-    let counts = counts_of(alloc, &grid)?;
-    has_limits(&counts)
-}
-
 #[test]
 fn counts_again(rt: HostRuntime) -> Result<(), Fail> {
-    Ok(count_again(rt.alloc())?)
+    let grid = open_grid(rt.alloc())?;
+    let counts = counts_of(rt.alloc(), &grid)?;
+    // No seat is held: the rooms are those of the limits.
+    assert!(rt; room(&counts, b'F') == 10 && room(&counts, b'Y') == 8 && room(&counts, b'M') == 5);
+    Ok(())
 }

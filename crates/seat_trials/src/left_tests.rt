@@ -1,13 +1,15 @@
 //! What lines leave: limits, held seats and rooms, by the inventory and by counters, and the part of one flight.
 use crate::texts::{
-    lines_after_a_wait_falls, lines_of_changes, lines_of_closings, lines_of_flight_1,
-    lines_while_closed, lines_without_place, no_lines, refused_changes, same_ladders, six_lines,
-    waiting_lines,
+    LINES_AFTER_A_WAIT_FALLS, LINES_OF_CHANGES, LINES_OF_CLOSINGS, LINES_OF_FLIGHT_1,
+    LINES_WHILE_CLOSED, LINES_WITHOUT_PLACE, NO_LINES, REFUSED_CHANGES, SAME_LADDERS, SIX_LINES,
+    WAITING_LINES,
 };
-use crate::trial::{Legs, Trial, Why, are_same, entries, is_same, place_of};
-use crate::worked_set::{grid, two_legs};
+use crate::trial::{Legs, Trial, are_same, entries, is_same, place_of};
+use crate::wants::Why;
+use crate::worked_set::{TWO_LEGS, grid};
 use seat_journal::Entry;
 use std::alloc::Global;
+use std::process::Abort;
 use std::test::Fail;
 
 /// A place, and its rooms in F, Y, M and Q.
@@ -21,69 +23,55 @@ type Limits = (u32, u8, &'static [(u8, u16, u16)]);
 
 /// After the six lines. On flight 0 one seat of Y is held on both legs and one of M on the first; on flight 1 one of F on
 /// the first leg and two of M on the second.
-fn rooms_of_six() -> &'static [Rooms] {
-    &[
-        // 10 less 2, 8 less 2, the least of those and 5 less 1
-        ((0, 0, 0), [8, 6, 4, 0]),
-        // 10 less 1, 8 less 1, the least of those and 5
-        ((0, 1, 1), [9, 7, 5, 0]),
-        ((0, 0, 1), [8, 6, 4, 0]),
-        // 10 less 1, 8, 5
-        ((1, 0, 0), [9, 8, 5, 0]),
-        // 10 less 2, 8 less 2, the least of those and 5 less 2
-        ((1, 1, 1), [8, 6, 3, 0]),
-        ((1, 0, 1), [8, 6, 3, 0]),
-    ]
-}
+const ROOMS_OF_SIX: &[Rooms] = &[
+    // 10 less 2, 8 less 2, the least of those and 5 less 1
+    ((0, 0, 0), [8, 6, 4, 0]),
+    // 10 less 1, 8 less 1, the least of those and 5
+    ((0, 1, 1), [9, 7, 5, 0]),
+    ((0, 0, 1), [8, 6, 4, 0]),
+    // 10 less 1, 8, 5
+    ((1, 0, 0), [9, 8, 5, 0]),
+    // 10 less 2, 8 less 2, the least of those and 5 less 2
+    ((1, 1, 1), [8, 6, 3, 0]),
+    ((1, 0, 1), [8, 6, 3, 0]),
+];
 
 /// The same on flight 1 alone.
-fn rooms_of_flight_1() -> &'static [Rooms] {
-    &[
-        ((1, 0, 0), [9, 8, 5, 0]),
-        ((1, 1, 1), [8, 6, 3, 0]),
-        ((1, 0, 1), [8, 6, 3, 0]),
-    ]
-}
+const ROOMS_OF_FLIGHT_1: &[Rooms] = &[
+    ((1, 0, 0), [9, 8, 5, 0]),
+    ((1, 1, 1), [8, 6, 3, 0]),
+    ((1, 0, 1), [8, 6, 3, 0]),
+];
 
 /// After the waiting lines: on the first leg two seats of M are held, on the second five.
-fn rooms_of_waiting() -> &'static [Rooms] {
-    &[
-        ((0, 0, 0), [8, 6, 3, 0]),
-        ((0, 1, 1), [5, 3, 0, 0]),
-        ((0, 0, 1), [5, 3, 0, 0]),
-    ]
-}
+const ROOMS_OF_WAITING: &[Rooms] = &[
+    ((0, 0, 0), [8, 6, 3, 0]),
+    ((0, 1, 1), [5, 3, 0, 0]),
+    ((0, 0, 1), [5, 3, 0, 0]),
+];
 
 /// Six seats of Y and three of M are held: 9 in Y and below, which F's 10 leaves 1 and Y's 9 leaves none.
-fn rooms_of_changes() -> &'static [Rooms] {
-    &[((0, 0, 0), [1, 0, 0, 0])]
-}
+const ROOMS_OF_CHANGES: &[Rooms] = &[((0, 0, 0), [1, 0, 0, 0])];
 
-fn held_of_changes() -> &'static [Held] {
-    &[((0, 0, 0), b'Y', 6), ((0, 0, 0), b'M', 3)]
-}
+const HELD_OF_CHANGES: &[Held] = &[((0, 0, 0), b'Y', 6), ((0, 0, 0), b'M', 3)];
 
 /// While M is closed on the first leg: two seats of M and six of Y are held there, and one of M on the second.
-fn rooms_while_closed() -> &'static [Rooms] {
-    &[
-        // 10 less 8, 8 less 8, and none
-        ((0, 0, 0), [2, 0, 0, 0]),
-        // 10 less 1, 8 less 1, 5 less 1
-        ((0, 1, 1), [9, 7, 4, 0]),
-        ((0, 0, 1), [2, 0, 0, 0]),
-    ]
-}
+const ROOMS_WHILE_CLOSED: &[Rooms] = &[
+    // 10 less 8, 8 less 8, and none
+    ((0, 0, 0), [2, 0, 0, 0]),
+    // 10 less 1, 8 less 1, 5 less 1
+    ((0, 1, 1), [9, 7, 4, 0]),
+    ((0, 0, 1), [2, 0, 0, 0]),
+];
 
 /// In the end four seats of M and three of Y are held on the first leg, and one of Y on the second.
-fn rooms_of_closings() -> &'static [Rooms] {
-    &[
-        // 10 less 7, 8 less 7, the least of those and 5 less 4
-        ((0, 0, 0), [3, 1, 1, 0]),
-        // 10 less 1, 8 less 1, 5
-        ((0, 1, 1), [9, 7, 5, 0]),
-        ((0, 0, 1), [3, 1, 1, 0]),
-    ]
-}
+const ROOMS_OF_CLOSINGS: &[Rooms] = &[
+    // 10 less 7, 8 less 7, the least of those and 5 less 4
+    ((0, 0, 0), [3, 1, 1, 0]),
+    // 10 less 1, 8 less 1, 5
+    ((0, 1, 1), [9, 7, 5, 0]),
+    ((0, 0, 1), [3, 1, 1, 0]),
+];
 
 /// Closing and opening change no limit and no wait.
 const LIMITS_OF_CLOSINGS: [Limits; 2] = [
@@ -105,26 +93,17 @@ const LIMITS_OF_REFUSED: [Limits; 5] = [
     (2, 0, &[]),
 ];
 
-fn held_after_a_wait_falls() -> &'static [Held] {
-    &[((0, 0, 0), b'M', 8)]
-}
-
-/// Steps what these lines ask, and compares each answer with its line.
-fn follow(trial: &mut Trial, lines: &[Entry]) -> Result<(), Why> {
-    for line in lines {
-        let entry = trial.step(line.session, line.work)?;
-        if !are_same(entry, line) {
-            return Err("another line");
-        }
-    }
-    Ok(())
-}
+const HELD_AFTER_A_WAIT_FALLS: &[Held] = &[((0, 0, 0), b'M', 8)];
 
 /// An inventory over flights 0 and 1 that answers as these lines say, with room for so many.
 fn filled(alloc: Global, text: &[u8], cap: u32) -> Result<Trial, Why> {
     let lines = entries(alloc, text)?;
-    let mut trial = Trial::of_two_legs(alloc, same_ladders(), cap)?;
-    follow(&mut trial, lines.as_slice())?;
+    let mut trial = Trial::of_two_legs(alloc, SAME_LADDERS, cap)?;
+    for line in lines.as_slice() {
+        if !are_same(trial.step(line.session, line.work)?, line) {
+            return Err(Why::OtherLine);
+        }
+    }
     trial.has_text(text)?;
     Ok(trial)
 }
@@ -132,16 +111,17 @@ fn filled(alloc: Global, text: &[u8], cap: u32) -> Result<Trial, Why> {
 /// One whose journal is replayed over the opening limits, and leaves what it left.
 fn told(alloc: Global, text: &[u8]) -> Result<Trial, Why> {
     let trial = filled(alloc, text, 999_999)?;
-    let grid = grid(alloc, two_legs(), same_ladders()).ok_or("a grid")?;
-    let again = trial.again(grid, 99)?;
-    is_same(&again, trial.shown())?;
+    let Some(grid) = grid(alloc, TWO_LEGS, SAME_LADDERS) else {
+        return Err(Why::Grid);
+    };
+    is_same(&trial.again(grid, 99)?, trial.shown())?;
     Ok(trial)
 }
 
 fn have_rooms(trial: &Trial, rows: &[Rooms]) -> Result<(), Why> {
     for row in rows {
         if !has_rooms(trial, row) {
-            return Err("the room of a place");
+            return Err(Why::RoomOfAPlace);
         }
     }
     Ok(())
@@ -159,7 +139,7 @@ fn has_rooms(trial: &Trial, row: &Rooms) -> bool {
 fn have_held(trial: &Trial, rows: &[Held]) -> Result<(), Why> {
     for row in rows {
         if !trial.has_held(row.0, row.1, row.2) {
-            return Err("the held seats");
+            return Err(Why::HeldSeats);
         }
     }
     Ok(())
@@ -168,7 +148,7 @@ fn have_held(trial: &Trial, rows: &[Held]) -> Result<(), Why> {
 fn have_limits(trial: &Trial, rows: &[Limits]) -> Result<(), Why> {
     for row in rows {
         if !trial.has_limits(row.0, row.1, row.2) {
-            return Err("the limits of a leg");
+            return Err(Why::LimitsOfALeg);
         }
     }
     Ok(())
@@ -190,25 +170,25 @@ fn leave(
 
 #[test]
 fn requests_leave_rooms(rt: HostRuntime) -> Result<(), Fail> {
-    leave(rt.alloc(), six_lines(), rooms_of_six(), &[], &[])?;
-    Ok(leave(rt.alloc(), waiting_lines(), rooms_of_waiting(), &[], &[])?)
+    leave(rt.alloc(), SIX_LINES, ROOMS_OF_SIX, &[], &[])?;
+    Ok(leave(rt.alloc(), WAITING_LINES, ROOMS_OF_WAITING, &[], &[])?)
 }
 
 #[test]
 fn changes_leave_limits(rt: HostRuntime) -> Result<(), Fail> {
     leave(
         rt.alloc(),
-        lines_of_changes(),
-        rooms_of_changes(),
-        held_of_changes(),
+        LINES_OF_CHANGES,
+        ROOMS_OF_CHANGES,
+        HELD_OF_CHANGES,
         &LIMITS_OF_CHANGES,
     )?;
-    leave(rt.alloc(), refused_changes(), &[], &[], &LIMITS_OF_REFUSED)?;
+    leave(rt.alloc(), REFUSED_CHANGES, &[], &[], &LIMITS_OF_REFUSED)?;
     Ok(leave(
         rt.alloc(),
-        lines_after_a_wait_falls(),
+        LINES_AFTER_A_WAIT_FALLS,
         &[],
-        held_after_a_wait_falls(),
+        HELD_AFTER_A_WAIT_FALLS,
         &[],
     )?)
 }
@@ -217,8 +197,8 @@ fn changes_leave_limits(rt: HostRuntime) -> Result<(), Fail> {
 fn closings_stop_sales(rt: HostRuntime) -> Result<(), Fail> {
     leave(
         rt.alloc(),
-        lines_while_closed(),
-        rooms_while_closed(),
+        LINES_WHILE_CLOSED,
+        ROOMS_WHILE_CLOSED,
         &[
             ((0, 0, 0), b'M', 2),
             ((0, 0, 0), b'Y', 6),
@@ -228,8 +208,8 @@ fn closings_stop_sales(rt: HostRuntime) -> Result<(), Fail> {
     )?;
     Ok(leave(
         rt.alloc(),
-        lines_of_closings(),
-        rooms_of_closings(),
+        LINES_OF_CLOSINGS,
+        ROOMS_OF_CLOSINGS,
         &[
             ((0, 0, 0), b'M', 4),
             ((0, 0, 0), b'Y', 3),
@@ -242,43 +222,33 @@ fn closings_stop_sales(rt: HostRuntime) -> Result<(), Fail> {
 /// The part of flight 1, whose lines are all its own.
 fn look_at_part(trial: &Trial) -> Result<(), Why> {
     let part = trial.part(1)?;
-    part.has_text(lines_of_flight_1())?;
-    have_rooms(&part, rooms_of_flight_1())?;
-    let again = part.part(1)?;
-    is_same(&again, part.shown())
-}
-
-fn take_parts(alloc: Global) -> Result<(), Why> {
-    let trial = filled(alloc, six_lines(), 999_999)?;
-    look_at_part(&trial)?;
-    let none = trial.part(2)?;
-    none.has_text(no_lines())
+    part.has_text(LINES_OF_FLIGHT_1)?;
+    have_rooms(&part, ROOMS_OF_FLIGHT_1)?;
+    is_same(&part.part(1)?, part.shown())
 }
 
 #[test]
 fn one_flight(rt: HostRuntime) -> Result<(), Fail> {
-    Ok(take_parts(rt.alloc())?)
+    let trial = filled(rt.alloc(), SIX_LINES, 999_999)?;
+    look_at_part(&trial)?;
+    Ok(trial.part(2)?.has_text(NO_LINES)?)
 }
 
 fn is_full(trial: &mut Trial, line: &Entry) -> bool {
     match trial.step(line.session, line.work) {
         Ok(_) => false,
-        Err(why) => why == "the journal is full",
+        Err(why) => why == Why::JournalFull,
     }
 }
 
-/// Asks the first of two lines once more, which a full journal refuses without a change.
-fn fill_up(alloc: Global) -> Result<(), Why> {
-    let mut trial = filled(alloc, lines_without_place(), 2)?;
-    let lines = entries(alloc, lines_without_place())?;
-    let before = trial.shown();
-    match lines.as_slice().first() {
-        Some(line) if is_full(&mut trial, line) => is_same(&trial, before),
-        _ => Err("a line beyond the last"),
-    }
-}
-
+/// Each of two lines is asked once more, which a full journal refuses without a change.
 #[test]
 fn no_place_and_a_full_journal(rt: HostRuntime) -> Result<(), Fail> {
-    Ok(fill_up(rt.alloc())?)
+    let mut trial = filled(rt.alloc(), LINES_WITHOUT_PLACE, 2)?;
+    let lines = entries(rt.alloc(), LINES_WITHOUT_PLACE)?;
+    let before = trial.shown();
+    for line in lines.as_slice() {
+        assert!(rt; is_full(&mut trial, line), "a line beyond the last");
+    }
+    Ok(is_same(&trial, before)?)
 }

@@ -42,4 +42,6 @@ mod texts;
 #[cfg(test)]
 mod trial;
 #[cfg(test)]
+mod wants;
+#[cfg(test)]
 mod worked_set;

@@ -1,24 +1,19 @@
 //! Names of other lengths than any text gives, and days of other years.
 use airline_base::{Airline, Code, Day, Locator, Station};
 
+/// Whether these letters are names of those kinds alone that have so many.
+fn are_names(text: &[u8]) -> bool {
+    let n = text.len();
+    Airline::new(text).is_some() == (n == 2)
+        && Code::new(text).is_some() == (n == 2)
+        && Station::new(text).is_some() == (n == 3)
+        && Locator::new(text).is_some() == (n == 6)
+}
+
 #[test]
 fn lengths_of_names(rt: HostRuntime) {
-    let letters = *b"ABCDEFGH";
     for n in 0..8 {
-        let text = &letters[..n];
-        assert!(rt;
-            Airline::new(text).is_some() == (n == 2),
-            "an airline of {n}"
-        );
-        assert!(rt; Code::new(text).is_some() == (n == 2), "a code of {n}");
-        assert!(rt;
-            Station::new(text).is_some() == (n == 3),
-            "a station of {n}"
-        );
-        assert!(rt;
-            Locator::new(text).is_some() == (n == 6),
-            "a locator of {n}"
-        );
+        assert!(rt; are_names(&b"ABCDEFGH"[..n]), "names of {n}");
     }
 }
 

@@ -4,9 +4,10 @@ ghost use Rattle.std.specs.Prelude.{◌≡◌, [], IfOk};
 
 use crate::lots::Lots;
 use crate::plain::Plain;
-use crate::side_tests::{limits, same_limits};
-use crate::trial::{Shown, Trial, Why, look_at, place_of};
-use crate::worked_set::{grid, three_legs};
+use crate::side_tests::{LIMITS, SAME_LIMITS};
+use crate::trial::{Shown, Trial, look_at, place_of};
+use crate::wants::Why;
+use crate::worked_set::{THREE_LEGS, grid};
 use airline_base::Class;
 use seat_core::{Core, replay};
 use seat_journal::{Advice, Advices, Entry, Work};
@@ -14,6 +15,7 @@ use seat_nesting::Grid;
 use seat_replay::{audit_in_parts, replay_by_flight, replay_in_parts};
 use seat_rules::{ReplayFault, ReplayKind, Totals};
 use std::alloc::Global;
+use std::process::Abort;
 use std::test::Fail;
 use std::thread::{Threads, available_parallelism};
 
@@ -24,8 +26,8 @@ const JOURNALS: u32 = 240;
 
 /// A legal history of lines that are drawn by lot.
 fn history(alloc: Global, grid: Grid) -> Result<Trial, Why> {
-    let Ok(mut plain) = Plain::new(alloc, same_limits()) else {
-        return Err("memory");
+    let Ok(mut plain) = Plain::new(alloc, SAME_LIMITS) else {
+        return Err(Why::Memory);
     };
     let mut trial = Trial::new(alloc, grid, LINES)?;
     let mut lots = Lots::new(40);
@@ -37,12 +39,12 @@ fn history(alloc: Global, grid: Grid) -> Result<Trial, Why> {
 
 fn draw_line(plain: &mut Plain, trial: &mut Trial, lots: &mut Lots) -> Result<(), Why> {
     let Some((session, work)) = lots.asked(plain.bookings()) else {
-        return Err("a line");
+        return Err(Why::Line);
     };
     let _ = trial.step(session, work)?;
     match plain.answer(&work) {
         Ok(_) => Ok(()),
-        Err(_) => Err("memory"),
+        Err(_) => Err(Why::Memory),
     }
 }
 
@@ -57,11 +59,11 @@ pub fn front(alloc: Global, lines: &[Entry], count: usize) -> Result<Vec<Entry>,
 
 fn add_copy(alloc: Global, front: &mut Vec<Entry>, line: &Entry) -> Result<(), Why> {
     let Ok(copy) = line.copy(alloc) else {
-        return Err("memory");
+        return Err(Why::Memory);
     };
     match front.push(copy) {
         Ok(()) => Ok(()),
-        Err(_) => Err("memory"),
+        Err(_) => Err(Why::Memory),
     }
 }
 
@@ -93,13 +95,6 @@ fn turn(lots: &mut Lots, entry: &mut Entry, other: &Entry) {
         1 => entry.session = lots.below(11) as u8,
         2 => entry.call = other.call,
         3 => entry.call = entry.call.wrapping_sub(1),
-        field => turn_rest(field, entry, other),
-    }
-}
-
-/// The fields behind the call.
-fn turn_rest(field: u32, entry: &mut Entry, other: &Entry) {
-    match field {
         4 => entry.work = other.work,
         6 => entry.released = entry.released.wrapping_add(1),
         7 => entry.released = other.released,
@@ -115,11 +110,11 @@ fn told(alloc: Global, number: u32) -> Result<Advices, Why> {
         return Ok(advices);
     }
     let Some(advice) = advice(number) else {
-        return Err("a class");
+        return Err(Why::NoClass);
     };
     match advices.push(advice) {
         Ok(()) => Ok(advices),
-        Err(_) => Err("memory"),
+        Err(_) => Err(Why::Memory),
     }
 }
 
@@ -138,7 +133,7 @@ fn advice(number: u32) -> Option<Advice> {
 /// Spoils one line: a field of it, its place, or it is lost.
 fn spoil(alloc: Global, lots: &mut Lots, lines: &mut Vec<Entry>) -> Result<(), Why> {
     let Ok(count) = u32::try_from(lines.len()) else {
-        return Err("too many lines");
+        return Err(Why::Lines);
     };
     if count == 0 {
         return Ok(());
@@ -183,7 +178,7 @@ fn turn_into(
         None => return Ok(()),
     };
     let Ok(copy) = copy else {
-        return Err("memory");
+        return Err(Why::Memory);
     };
     if let Some(entry) = lines.get_mut(at) {
         turn(lots, entry, &copy);
@@ -212,7 +207,7 @@ fn outcome_of(replayed: Result<Core, ReplayFault>) -> Result<Given, Why> {
             shown: look_at(&core),
         }),
         Err(fault) => match fault.kind {
-            ReplayKind::Memory => Err("memory"),
+            ReplayKind::Memory => Err(Why::Memory),
             _ => Ok(Given {
                 number: fault.number,
                 kind: fault_at(fault.kind),
@@ -251,14 +246,14 @@ fn opened(alloc: Global, limits: &Grid, cap: u32) -> Result<Core, Why>
     ensures { IfOk result (λ core. core.journal ≡ []) }
 {
     if cap > 999_999 {
-        return Err("at most 999,999 lines");
+        return Err(Why::Lines);
     }
     let Ok(grid) = limits.copy(alloc) else {
-        return Err("memory");
+        return Err(Why::Memory);
     };
     match Core::new(alloc, grid, cap) {
         Ok(core) => Ok(core),
-        Err(_) => Err("memory"),
+        Err(_) => Err(Why::Memory),
     }
 }
 
@@ -272,15 +267,15 @@ pub fn compare<R: Threads + Sync>(
 ) -> Result<Given, Why> {
     let want = outcome_of(replay(alloc, opened(alloc, limits, cap)?, lines))?;
     if by_flight(alloc, limits, cap, lines)? != want {
-        return Err("by flight");
+        return Err(Why::ByFlight);
     }
     let told = audited(alloc, limits, cap, lines)?;
     for parts in [0, 1, 2, 3, processors(rt).saturating_add(3)] {
         if in_parts(rt, alloc, limits, cap, lines, parts)? != want {
-            return Err("in parts");
+            return Err(Why::InParts);
         }
         if audited_in_parts(rt, alloc, limits, cap, lines, parts)? != told {
-            return Err("an audit in parts");
+            return Err(Why::AuditInParts);
         }
     }
     Ok(want)
@@ -339,8 +334,8 @@ impl Tally {
             self.legal = self.legal.saturating_add(1);
             return;
         }
-        if let Some(times) = self.faults.get_mut(given.kind) {
-            *times = times.saturating_add(1);
+        if given.kind < 6 {
+            self.faults[given.kind] = self.faults[given.kind].saturating_add(1);
         }
     }
 
@@ -400,23 +395,13 @@ fn try_all<R: Threads + Sync>(
     Ok(tally)
 }
 
-fn replay_each_way<R: Threads + Sync>(rt: &R, alloc: Global) -> Result<(), Why> {
-    let Some(grid) = grid(alloc, three_legs(), limits()) else {
-        return Err("a grid");
-    };
-    let Ok(copy) = grid.copy(alloc) else {
-        return Err("memory");
-    };
-    let trial = history(alloc, copy)?;
-    let tally = try_all(rt, alloc, &grid, trial.journal())?;
-    if tally.has_all() {
-        Ok(())
-    } else {
-        Err("each fault comes often")
-    }
-}
-
 #[test]
 fn each_way_gives_the_same(rt: HostRuntime) -> Result<(), Fail> {
-    Ok(replay_each_way(&rt, rt.alloc())?)
+    let Some(grid) = grid(rt.alloc(), THREE_LEGS, LIMITS) else {
+        return Err(Fail::from(Why::Grid));
+    };
+    let trial = history(rt.alloc(), grid.copy(rt.alloc())?)?;
+    let tally = try_all(&rt, rt.alloc(), &grid, trial.journal())?;
+    assert!(rt; tally.has_all(), "each fault comes often");
+    Ok(())
 }

@@ -14,21 +14,23 @@ fn folder(alloc: Global) -> Result<Folder, Fail> {
 }
 
 // A replacement that keeps what the name has passes six calls on: begin, append, sync, keep, rename, sync of the folder.
+/// Behind how many calls it crashes, whether that takes the renaming back, and whether the new file is left.
+const CRASHES: [(u64, bool, bool); 10] = [
+    (0, false, false),
+    (1, false, false),
+    (2, false, false),
+    (3, false, false),
+    (4, false, false),
+    (4, true, false),
+    (5, false, true),
+    (5, true, false),
+    (6, false, true),
+    (6, true, true),
+];
+
 #[test]
 fn leaves_the_old_or_the_new(rt: HostRuntime) -> Result<(), Fail> {
-    let rows: [(u64, bool, &[u8]); 10] = [
-        (0, false, &OLD),
-        (1, false, &OLD),
-        (2, false, &OLD),
-        (3, false, &OLD),
-        (4, false, &OLD),
-        (4, true, &OLD),
-        (5, false, &NEW),
-        (5, true, &OLD),
-        (6, false, &NEW),
-        (6, true, &NEW),
-    ];
-    for (calls, goes_back, left) in rows {
+    for (calls, goes_back, is_new) in CRASHES {
         let mut fused = Fuse::new(folder(rt.alloc())?, calls);
         assert!(rt;
             is_replaced(&mut fused, calls == 6),
@@ -36,6 +38,7 @@ fn leaves_the_old_or_the_new(rt: HostRuntime) -> Result<(), Fail> {
         );
         let mut file = fused.into_inner();
         file.crash(goes_back, b"torn");
+        let left = if is_new { NEW.as_slice() } else { &OLD };
         assert!(rt; file.bytes() == left, "left after {calls}");
         assert!(rt; keeps(&file, &OLD, calls >= 4), "kept after {calls}");
     }
@@ -66,25 +69,22 @@ fn keeps_nothing_unasked(rt: HostRuntime) -> Result<(), Fail> {
     Ok(())
 }
 
-fn is_renamed(file: &mut Folder) -> bool {
-    file.begin().is_ok() && file.append(&NEW).is_ok() && file.rename().is_ok()
+/// Whether the new file is there once it is renamed, and these bytes behind a crash that tears it so.
+fn is_torn(alloc: Global, goes_back: bool, torn: &[u8], left: &[u8]) -> Result<bool, Fail> {
+    let mut file = folder(alloc)?;
+    let is_renamed = file.begin().is_ok() && file.append(&NEW).is_ok() && file.rename().is_ok();
+    let is_there = is_renamed && file.bytes() == NEW.as_slice();
+    file.crash(goes_back, torn);
+    Ok(is_there && file.bytes() == left)
 }
 
 // What was not synced is torn, whole as it may look before the crash.
 #[test]
 fn tears_a_file_that_was_not_synced(rt: HostRuntime) -> Result<(), Fail> {
-    let rows: [(bool, &[u8], &[u8]); 4] = [
-        (false, b"torn for good", b"torn "),
-        (false, b"", b""),
-        (false, b"ne", b"ne"),
-        (true, b"torn", &OLD),
-    ];
-    for (goes_back, torn, left) in rows {
-        let mut file = folder(rt.alloc())?;
-        assert!(rt; is_renamed(&mut file) && file.bytes() == NEW.as_slice());
-        file.crash(goes_back, torn);
-        assert!(rt; file.bytes() == left);
-    }
+    assert!(rt; is_torn(rt.alloc(), false, b"torn for good", b"torn ")?);
+    assert!(rt; is_torn(rt.alloc(), false, b"", b"")?);
+    assert!(rt; is_torn(rt.alloc(), false, b"ne", b"ne")?);
+    assert!(rt; is_torn(rt.alloc(), true, b"torn", &OLD)?);
     Ok(())
 }
 

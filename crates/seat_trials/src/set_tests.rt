@@ -1,5 +1,6 @@
 //! Data sets that end too early or have a wrong byte, wherever that is, and too many records or flights.
-use crate::worked_set::{expanded, no_legs, one_leg, records};
+use crate::wants::Why;
+use crate::worked_set::{NO_LEGS, ONE_LEG, expanded, records};
 use ssim_records::{DataSet, SetFault, SetKind, read_set};
 use std::alloc::{AllocError, Global};
 use std::test::Fail;
@@ -21,14 +22,14 @@ fn is_refused(alloc: Global, bytes: &[u8], nth: u32, kind: SetKind) -> bool {
 
 #[test]
 fn cuts_and_wrong_bytes(rt: HostRuntime) -> Result<(), Fail> {
-    let whole = records(rt.alloc(), no_legs()).ok_or("a set")?;
+    let whole = records(rt.alloc(), NO_LEGS).ok_or(Why::Set)?;
     for n in 0..whole.len() {
         let want = match n {
             0 => SetKind::NoHeader,
             200 | 400 => SetKind::NoTrailer,
             _ => SetKind::Short,
         };
-        let nth = nth_of(n);
+        let nth = (n / 200 + 1) as u32;
         assert!(rt; is_refused(rt.alloc(), &whole[..n], nth, want), "{n} bytes");
         let changed = changed(&whole, n)?;
         assert!(rt;
@@ -39,23 +40,18 @@ fn cuts_and_wrong_bytes(rt: HostRuntime) -> Result<(), Fail> {
     Ok(())
 }
 
-/// The number of the record that has this byte.
-fn nth_of(n: usize) -> u32 {
-    u32::try_from(n / 200 + 1).unwrap_or(0)
-}
-
 /// The set with a wrong byte there.
 fn changed(whole: &Vec<u8>, n: usize) -> Result<Vec<u8>, AllocError> {
     let mut changed = whole.clone()?;
-    if let Some(byte) = changed.get_mut(n) {
-        *byte = 0xff;
+    if n < changed.len() {
+        changed[n] = 0xff;
     }
     Ok(changed)
 }
 
 #[test]
 fn records_beyond_the_most(rt: HostRuntime) -> Result<(), Fail> {
-    let whole = records(rt.alloc(), no_legs()).ok_or("a set")?;
+    let whole = records(rt.alloc(), NO_LEGS).ok_or(Why::Set)?;
     let is_told = is_too_many(rt.alloc(), &whole)?;
     assert!(rt; is_told, "three records are read where two may be");
     assert!(rt; is_read(rt.alloc(), &whole), "three records are refused");
@@ -78,7 +74,7 @@ fn is_read(alloc: Global, bytes: &[u8]) -> bool {
 
 /// How many flights the set has, or the text of its fault.
 fn flights_of(alloc: Global, most: u32) -> Result<Option<Result<u32, String>>, AllocError> {
-    let Some(found) = expanded(alloc, one_leg(), most) else {
+    let Some(found) = expanded(alloc, ONE_LEG, most) else {
         return Ok(None);
     };
     Ok(Some(match found {

@@ -1,16 +1,16 @@
 //! The product and the plain rules side by side, on commands and changes that are drawn by lot.
 use crate::lots::Lots;
 use crate::plain::{Answer, Limit, Plain};
-use crate::trial::{Legs, Trial, Why, is_same, place_of};
-use crate::worked_set::{grid, three_legs};
+use crate::trial::{Legs, Trial, is_same, place_of};
+use crate::wants::Why;
+use crate::worked_set::{THREE_LEGS, grid};
 use seat_journal::{Entry, Work};
 use std::alloc::{AllocError, Global};
 use std::test::Fail;
 
 /// The limits of four flights: ladders that differ from leg to leg, a class that is missing on a leg,
 /// one whose rank is another there, a leg without limits, and one class alone.
-pub fn limits() -> &'static [u8] {
-    b"AU XX123 15JUN24 15JUN24 LHRJFK F012/009 Y009/012 M004/010
+pub const LIMITS: &[u8] = b"AU XX123 15JUN24 15JUN24 LHRJFK F012/009 Y009/012 M004/010
 AU XX123 15JUN24 15JUN24 JFKLAX F008/010 Y008/012 M005/011
 AU XX123 16JUN24 16JUN24 LHRJFK F006/000 Y004/020
 AU XX124 15JUN24 15JUN24 LHRJFK F014/012 M010/016 Y005/012
@@ -19,33 +19,30 @@ AU XX124 15JUN24 15JUN24 LAXSFO F013/012 M008/014
 AU XX124 16JUN24 16JUN24 LHRJFK Y009/020
 AU XX124 16JUN24 16JUN24 JFKLAX Y008/025
 AU XX124 16JUN24 16JUN24 LAXSFO Y009/020
-"
-}
+";
 
 /// The same limits by flight, leg and class, without a mark.
-pub fn same_limits() -> &'static [Limit] {
-    &[
-        (0, 0, b'F', 12, 9, false),
-        (0, 0, b'Y', 9, 12, false),
-        (0, 0, b'M', 4, 10, false),
-        (0, 1, b'F', 8, 10, false),
-        (0, 1, b'Y', 8, 12, false),
-        (0, 1, b'M', 5, 11, false),
-        (1, 0, b'F', 6, 0, false),
-        (1, 0, b'Y', 4, 20, false),
-        (2, 0, b'F', 14, 12, false),
-        (2, 0, b'M', 10, 16, false),
-        (2, 0, b'Y', 5, 12, false),
-        (2, 1, b'F', 9, 12, false),
-        (2, 1, b'Y', 9, 15, false),
-        (2, 1, b'M', 4, 12, false),
-        (2, 2, b'F', 13, 12, false),
-        (2, 2, b'M', 8, 14, false),
-        (3, 0, b'Y', 9, 20, false),
-        (3, 1, b'Y', 8, 25, false),
-        (3, 2, b'Y', 9, 20, false),
-    ]
-}
+pub const SAME_LIMITS: &[Limit] = &[
+    Limit(0, 0, b'F', 12, 9, false),
+    Limit(0, 0, b'Y', 9, 12, false),
+    Limit(0, 0, b'M', 4, 10, false),
+    Limit(0, 1, b'F', 8, 10, false),
+    Limit(0, 1, b'Y', 8, 12, false),
+    Limit(0, 1, b'M', 5, 11, false),
+    Limit(1, 0, b'F', 6, 0, false),
+    Limit(1, 0, b'Y', 4, 20, false),
+    Limit(2, 0, b'F', 14, 12, false),
+    Limit(2, 0, b'M', 10, 16, false),
+    Limit(2, 0, b'Y', 5, 12, false),
+    Limit(2, 1, b'F', 9, 12, false),
+    Limit(2, 1, b'Y', 9, 15, false),
+    Limit(2, 1, b'M', 4, 12, false),
+    Limit(2, 2, b'F', 13, 12, false),
+    Limit(2, 2, b'M', 8, 14, false),
+    Limit(3, 0, b'Y', 9, 20, false),
+    Limit(3, 1, b'Y', 8, 25, false),
+    Limit(3, 2, b'Y', 9, 20, false),
+];
 
 /// The limits with marks, and the same by flight, leg and class.
 #[derive(Drop)]
@@ -59,11 +56,11 @@ fn limits_with_marks(alloc: Global) -> Result<Marked, AllocError> {
     let mut lots = Lots::new(14);
     let mut marked = Marked {
         text: Vec::new(alloc),
-        rows: Vec::from_slice(alloc, same_limits())?,
+        rows: Vec::from_slice(alloc, SAME_LIMITS)?,
     };
     let mut row = 0usize;
     let mut digits = 0u8;
-    for byte in limits() {
+    for byte in LIMITS {
         marked.text.push(*byte)?;
         if *byte == b'/' {
             digits = 3;
@@ -79,8 +76,8 @@ fn limits_with_marks(alloc: Global) -> Result<Marked, AllocError> {
 }
 
 fn mark(marked: &mut Marked, row: usize, listed: bool) -> Result<(), AllocError> {
-    if let Some(limit) = marked.rows.get_mut(row) {
-        limit.5 = listed;
+    if row < marked.rows.len() {
+        marked.rows[row].5 = listed;
     }
     if listed {
         marked.text.push(b'N')?;
@@ -89,28 +86,26 @@ fn mark(marked: &mut Marked, row: usize, listed: bool) -> Result<(), AllocError>
 }
 
 /// Each place of the four flights: flight, first leg and last leg.
-fn places() -> &'static [Legs] {
-    &[
-        (0, 0, 0),
-        (0, 0, 1),
-        (0, 1, 1),
-        (1, 0, 0),
-        (1, 0, 1),
-        (1, 1, 1),
-        (2, 0, 0),
-        (2, 0, 1),
-        (2, 0, 2),
-        (2, 1, 1),
-        (2, 1, 2),
-        (2, 2, 2),
-        (3, 0, 0),
-        (3, 0, 1),
-        (3, 0, 2),
-        (3, 1, 1),
-        (3, 1, 2),
-        (3, 2, 2),
-    ]
-}
+const PLACES: &[Legs] = &[
+    (0, 0, 0),
+    (0, 0, 1),
+    (0, 1, 1),
+    (1, 0, 0),
+    (1, 0, 1),
+    (1, 1, 1),
+    (2, 0, 0),
+    (2, 0, 1),
+    (2, 0, 2),
+    (2, 1, 1),
+    (2, 1, 2),
+    (2, 2, 2),
+    (3, 0, 0),
+    (3, 0, 1),
+    (3, 0, 2),
+    (3, 1, 1),
+    (3, 1, 2),
+    (3, 2, 2),
+];
 
 /// How often each reply came, in the order of `reply_at`, how many lines told one advice or several, and how many of these opened a class.
 #[derive(Drop)]
@@ -147,8 +142,9 @@ impl Tally {
         if is_opening(work) && advices > 0 {
             self.opened = self.opened.saturating_add(1);
         }
-        if let Some(times) = self.replies.get_mut(reply_at(reply)) {
-            *times = times.saturating_add(1);
+        let at = reply_at(reply);
+        if at < 9 {
+            self.replies[at] = self.replies[at].saturating_add(1);
         }
         if advices == 1 {
             self.one = self.one.saturating_add(1);
@@ -179,7 +175,7 @@ struct Beside {
 impl Beside {
     fn new(alloc: Global, limits: &[Limit]) -> Result<Beside, Why> {
         let Ok(plain) = Plain::new(alloc, limits) else {
-            return Err("memory");
+            return Err(Why::Memory);
         };
         Ok(Beside {
             plain,
@@ -193,49 +189,52 @@ impl Beside {
         })
     }
 
-    fn next_call(&mut self, session: u8) -> Option<u32> {
-        let call = self.calls.get_mut(session as usize)?;
-        *call = call.saturating_add(1);
-        Some(*call)
+    fn next_call(&mut self, session: u8) -> u32 {
+        let at = session as usize;
+        if at >= 9 {
+            return 0;
+        }
+        self.calls[at] = self.calls[at].saturating_add(1);
+        self.calls[at]
     }
 
     /// Answers what an entry asks by the plain rules, and compares it whole.
     fn compare(&mut self, entry: &Entry, session: u8, work: &Work) -> Result<(), Why> {
-        let call = self.next_call(session).ok_or("a session")?;
+        let call = self.next_call(session);
         let Ok(want) = self.plain.answer(work) else {
-            return Err("memory");
+            return Err(Why::Memory);
         };
         self.tally.count(work, want.reply, want.advices.len());
         if entry.number != self.plain.lines() || entry.session != session || entry.call != call {
-            return Err("number, session or call");
+            return Err(Why::Caller);
         }
-        if entry.work != *work {
-            return Err("what was asked");
-        }
-        compare_answer(entry, &want)
+        compare_answer(entry, work, &want)
     }
 }
 
-fn compare_answer(entry: &Entry, want: &Answer) -> Result<(), Why> {
+fn compare_answer(entry: &Entry, work: &Work, want: &Answer) -> Result<(), Why> {
+    if entry.work != *work {
+        return Err(Why::Asked);
+    }
     if entry.reply.letters() != want.reply {
-        return Err("a reply");
+        return Err(Why::Reply);
     }
     if entry.released != want.released {
-        return Err("released seats");
+        return Err(Why::Released);
     }
     if entry.advices.as_slice() != want.advices.as_slice() {
-        return Err("advices");
+        return Err(Why::TheAdvices);
     }
     Ok(())
 }
 
 /// Compares the room of each place in each class.
 fn compare_rooms(trial: &Trial, plain: &Plain) -> Result<(), Why> {
-    for legs in places() {
+    for legs in PLACES {
         for letter in b"FYMQ" {
             let place = place_of(*legs);
             if !trial.has_room(place, *letter, plain.room(place, *letter)) {
-                return Err("the room of a place");
+                return Err(Why::RoomOfAPlace);
             }
         }
     }
@@ -244,7 +243,7 @@ fn compare_rooms(trial: &Trial, plain: &Plain) -> Result<(), Why> {
 
 fn step_both(trial: &mut Trial, beside: &mut Beside, lots: &mut Lots) -> Result<(), Why> {
     let Some((session, work)) = lots.asked(beside.plain.bookings()) else {
-        return Err("a line");
+        return Err(Why::Line);
     };
     let entry = trial.step(session, work)?;
     beside.compare(entry, session, &work)
@@ -263,7 +262,7 @@ fn run_both(trial: &mut Trial, beside: &mut Beside) -> Result<(), Why> {
     if beside.tally.has_all() {
         Ok(())
     } else {
-        Err("each reply comes often")
+        Err(Why::EachReply)
     }
 }
 
@@ -279,9 +278,10 @@ fn compare_part(alloc: Global, trial: &Trial, flight: u32, limits: &[Limit]) -> 
 
 /// The journal is replayed, and is the same again.
 fn compare_replay(alloc: Global, trial: &Trial, limits: &[u8]) -> Result<(), Why> {
-    let grid = grid(alloc, three_legs(), limits).ok_or("a grid")?;
-    let again = trial.again(grid, 3000)?;
-    is_same(&again, trial.shown())
+    let Some(grid) = grid(alloc, THREE_LEGS, limits) else {
+        return Err(Why::Grid);
+    };
+    is_same(&trial.again(grid, 3000)?, trial.shown())
 }
 
 fn run_and_compare(alloc: Global, trial: &mut Trial, marked: &Marked) -> Result<(), Why> {
@@ -294,16 +294,12 @@ fn run_and_compare(alloc: Global, trial: &mut Trial, marked: &Marked) -> Result<
     compare_replay(alloc, trial, &marked.text)
 }
 
-fn answer_as_the_rules_do(alloc: Global) -> Result<(), Why> {
-    let Ok(marked) = limits_with_marks(alloc) else {
-        return Err("memory");
-    };
-    let grid = grid(alloc, three_legs(), &marked.text).ok_or("a grid")?;
-    let mut trial = Trial::new(alloc, grid, 3000)?;
-    run_and_compare(alloc, &mut trial, &marked)
-}
-
 #[test]
 fn answers_as_the_rules_do(rt: HostRuntime) -> Result<(), Fail> {
-    Ok(answer_as_the_rules_do(rt.alloc())?)
+    let marked = limits_with_marks(rt.alloc())?;
+    let Some(grid) = grid(rt.alloc(), THREE_LEGS, &marked.text) else {
+        return Err(Fail::from(Why::Grid));
+    };
+    let mut trial = Trial::new(rt.alloc(), grid, 3000)?;
+    Ok(run_and_compare(rt.alloc(), &mut trial, &marked)?)
 }

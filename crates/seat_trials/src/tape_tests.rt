@@ -13,27 +13,64 @@ fn tape(alloc: Global) -> Result<TornTape, Fail> {
     Ok(TornTape::over(Vec::from_slice(alloc, &KEPT)?))
 }
 
+/// Behind how many calls the file fails, what a crash leaves of what was on its way, and what the file has then.
+struct Crash {
+    calls: u64,
+    torn: &'static [u8],
+    left: &'static [u8],
+}
+
+const CRASHES: &[Crash] = &[
+    Crash {
+        calls: 0,
+        torn: b"torn",
+        left: b"1 a\n",
+    },
+    Crash {
+        calls: 1,
+        torn: b"",
+        left: b"1 a\n",
+    },
+    Crash {
+        calls: 1,
+        torn: b"2",
+        left: b"1 a\n2",
+    },
+    Crash {
+        calls: 1,
+        torn: b"\n2 b",
+        left: b"1 a\n\n2 b",
+    },
+    Crash {
+        calls: 1,
+        torn: b"2 b\n3 c\n",
+        left: b"1 a\n2 b\n",
+    },
+    Crash {
+        calls: 2,
+        torn: b"torn",
+        left: b"1 a\n2 b\n",
+    },
+    Crash {
+        calls: 9,
+        torn: b"",
+        left: b"1 a\n2 b\n",
+    },
+];
+
 // Keeping a line passes two calls on: append and sync.
 #[test]
 fn keeps_what_was_told(rt: HostRuntime) -> Result<(), Fail> {
-    let rows: [(u64, &[u8], &[u8]); 7] = [
-        (0, b"torn", b"1 a\n"),
-        (1, b"", b"1 a\n"),
-        (1, b"2", b"1 a\n2"),
-        (1, b"\n2 b", b"1 a\n\n2 b"),
-        (1, b"2 b\n3 c\n", b"1 a\n2 b\n"),
-        (2, b"torn", b"1 a\n2 b\n"),
-        (9, b"", b"1 a\n2 b\n"),
-    ];
-    for (calls, torn, left) in rows {
+    for row in CRASHES {
+        let calls = row.calls;
         let mut fused = Fuse::new(tape(rt.alloc())?, calls);
         assert!(rt;
             is_kept(&mut fused, calls),
             "Ok, usable and failures after {calls}"
         );
         let mut file = fused.into_inner();
-        file.crash(torn);
-        assert!(rt; file.bytes() == left, "left after {calls}");
+        file.crash(row.torn);
+        assert!(rt; file.bytes() == row.left, "left after {calls}");
     }
     Ok(())
 }
@@ -50,43 +87,45 @@ fn is_kept(fused: &mut Fuse<TornTape>, calls: u64) -> bool {
 #[test]
 fn syncs_no_more_behind_a_lost_sync(rt: HostRuntime) -> Result<(), Fail> {
     let mut fused = Fuse::new(tape(rt.alloc())?, 0);
-    assert!(rt; refuses_syncs(&mut fused) && refuses_more(rt.alloc(), &mut fused));
-    assert!(rt; fused.failures() == 5);
+    assert!(rt; refuses_all(rt.alloc(), &mut fused) && fused.failures() == 5);
     assert!(rt; fused.into_inner().bytes() == KEPT.as_slice());
     Ok(())
 }
 
-fn refuses_syncs(fused: &mut Fuse<TornTape>) -> bool {
-    fused.sync().is_err() && fused.sync().is_err()
+fn refuses_all(alloc: Global, fused: &mut Fuse<TornTape>) -> bool {
+    fused.sync().is_err()
+        && fused.sync().is_err()
+        && fused.append(&LINE).is_err()
+        && fused.cut(0).is_err()
+        && fused.read_all(alloc, 9).is_err()
 }
 
-fn refuses_more(alloc: Global, fused: &mut Fuse<TornTape>) -> bool {
-    fused.append(&LINE).is_err() && fused.cut(0).is_err() && fused.read_all(alloc, 9).is_err()
+/// A file of two lines, cut behind so many bytes.
+fn cut(alloc: Global, len: u64) -> Result<TornTape, Fail> {
+    let mut file = tape(alloc)?;
+    keep(&mut file, &LINE)?;
+    file.cut(len)?;
+    Ok(file)
+}
+
+/// Whether these bytes are read of such a file, where there may be so many.
+fn is_read(alloc: Global, len: u64, max: u64, want: &[u8]) -> Result<bool, Fail> {
+    match cut(alloc, len)?.read_all(alloc, max) {
+        Ok(found) => Ok(found.as_slice() == want),
+        Err(_) => Ok(false),
+    }
 }
 
 #[test]
 fn cuts_and_reads(rt: HostRuntime) -> Result<(), Fail> {
-    let rows: [(u64, u64, Result<&[u8], ReadFault>); 5] = [
-        (9, 8, Ok(b"1 a\n2 b\n")),
-        (8, 7, Err(ReadFault::TooLarge)),
-        (4, 4, Ok(b"1 a\n")),
-        (3, 9, Ok(b"1 a")),
-        (0, 0, Ok(b"")),
-    ];
-    for (len, max, want) in rows {
-        let mut file = tape(rt.alloc())?;
-        assert!(rt; keep(&mut file, &LINE).is_ok() && file.cut(len).is_ok());
-        assert!(rt; is_read(rt.alloc(), &mut file, max, want), "cut at {len}");
-    }
+    assert!(rt; is_read(rt.alloc(), 9, 8, b"1 a\n2 b\n")?);
+    assert!(rt; is_read(rt.alloc(), 4, 4, b"1 a\n")?);
+    assert!(rt; is_read(rt.alloc(), 3, 9, b"1 a")?);
+    assert!(rt; is_read(rt.alloc(), 0, 0, b"")?);
+    let mut file = cut(rt.alloc(), 8)?;
+    let is_too_large = matches!(file.read_all(rt.alloc(), 7), Err(ReadFault::TooLarge));
+    assert!(rt; is_too_large, "eight bytes where seven may be");
     Ok(())
-}
-
-fn is_read(alloc: Global, file: &mut TornTape, max: u64, want: Result<&[u8], ReadFault>) -> bool {
-    match (file.read_all(alloc, max), want) {
-        (Ok(found), Ok(text)) => found.as_slice() == text,
-        (Err(found), Err(fault)) => found == fault,
-        _ => false,
-    }
 }
 
 #[test]

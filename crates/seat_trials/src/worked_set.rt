@@ -11,40 +11,32 @@ use std::alloc::Global;
 
 /// London to New York and on to Los Angeles, on 15 and 16 June 2024: flights 0 and 1.
 /// A line is a record, with a tilde in place of the blanks ahead of its last 13 bytes.
-pub fn two_legs() -> &'static [u8] {
-    b"1AIRLINE STANDARD SCHEDULE DATA SET     1~    001000001
+pub const TWO_LEGS: &[u8] = b"1AIRLINE STANDARD SCHEDULE DATA SET     1~    001000001
 2LXX          01JUN2430JUN24~       000002
 3 XX  1230101 15JUN2416JUN24     67 LHR    1000+0100  JFK~     00000003
 3 XX  1230102 15JUN2416JUN24     67 JFK    1900-0400  LAX~     00000004
-5 XX~000004E000005"
-}
+5 XX~000004E000005";
 
 /// That flight, and one that goes on to San Francisco: flights 2 and 3.
-pub fn three_legs() -> &'static [u8] {
-    b"1AIRLINE STANDARD SCHEDULE DATA SET     1~    001000001
+pub const THREE_LEGS: &[u8] = b"1AIRLINE STANDARD SCHEDULE DATA SET     1~    001000001
 2LXX          01JUN2430JUN24~       000002
 3 XX  1230101 15JUN2416JUN24     67 LHR    1000+0100  JFK~     00000003
 3 XX  1230102 15JUN2416JUN24     67 JFK    1900-0400  LAX~     00000004
 3 XX  1240101 15JUN2416JUN24     67 LHR    1100+0100  JFK~     00000005
 3 XX  1240102 15JUN2416JUN24     67 JFK    1930-0400  LAX~     00000006
 3 XX  1240103 15JUN2416JUN24     67 LAX    2230-0700  SFO~     00000007
-5 XX~000007E000008"
-}
+5 XX~000007E000008";
 
 /// A set of 600 bytes, without legs.
-pub fn no_legs() -> &'static [u8] {
-    b"1AIRLINE STANDARD SCHEDULE DATA SET     1~    001000001
+pub const NO_LEGS: &[u8] = b"1AIRLINE STANDARD SCHEDULE DATA SET     1~    001000001
 2LXX          01JUN2430JUN24~       000002
-5 XX~000002E000003"
-}
+5 XX~000002E000003";
 
 /// London to New York, on 15 and 16 June 2024.
-pub fn one_leg() -> &'static [u8] {
-    b"1AIRLINE STANDARD SCHEDULE DATA SET     1~    001000001
+pub const ONE_LEG: &[u8] = b"1AIRLINE STANDARD SCHEDULE DATA SET     1~    001000001
 2LXX          01JUN2430JUN24~       000002
 3 XX  1230101 15JUN2416JUN24     67 LHR    1000+0100  JFK~     00000003
-5 XX~000003E000004"
-}
+5 XX~000003E000004";
 
 fn put_blanks(bytes: &mut Vec<u8>, times: usize) -> Option<()> {
     for _ in 0..times {
