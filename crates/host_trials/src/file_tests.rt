@@ -28,6 +28,18 @@ fn folder(rt: &HostRuntime) -> io::Result<String> {
     Err(io::Error::other("no name is free"))
 }
 
+/// A file under its lock, and what it has.
+fn opened(rt: &HostRuntime, name: &str) -> Result<(TapeFile, Vec<u8>), Why> {
+    let Ok(tape) = open(rt, name) else {
+        return Err(Why::File);
+    };
+    let mut tape = tape;
+    match tape.read_all(rt.alloc(), MOST_OPEN_BYTES) {
+        Ok(bytes) => Ok((tape, bytes)),
+        Err(_) => Err(Why::File),
+    }
+}
+
 /// Goes on with the journal of a file, asks for all lines of the worked ones that it has not, and leaves it open: how many
 /// lines it had, what stood behind them, and the number of the file beside it.
 fn visit<W: Wait>(
@@ -39,15 +51,9 @@ fn visit<W: Wait>(
     let Some(grid) = grid(rt.alloc()) else {
         return Err(Why::Grid);
     };
-    let Ok(tape) = open(rt, name) else {
-        return Err(Why::File);
-    };
-    let mut tape = tape;
-    let Ok(bytes) = tape.read_all(rt.alloc(), MOST_OPEN_BYTES) else {
-        return Err(Why::File);
-    };
+    let (tape, bytes) = opened(rt, name)?;
     let mut beside = BesideFile::of(rt, name);
-    let gone = Serving::go_on(
+    match Serving::go_on(
         wait,
         rt.alloc(),
         grid,
@@ -57,8 +63,7 @@ fn visit<W: Wait>(
         bytes.as_slice(),
         tape,
         &mut beside,
-    );
-    match gone {
+    ) {
         Ok((serving, _, rest)) => {
             let found = 20u32.saturating_sub(serving.room()) as usize;
             let (how, _) = name_of(rest);
@@ -217,10 +222,18 @@ fn goes_on_with_a_real_file(rt: HostRuntime) -> Result<(), Fail> {
     Ok(())
 }
 
-fn fault_at(rt: &HostRuntime, name: &str) -> Option<OpenFault> {
+fn is_refused(rt: &HostRuntime, name: &str, fault: OpenFault) -> bool {
     match open(rt, name) {
-        Ok(_) => None,
-        Err(fault) => Some(fault),
+        Ok(_) => false,
+        Err(found) => found == fault,
+    }
+}
+
+/// Whether one that has the file keeps another out.
+fn is_taken(rt: &HostRuntime, name: &str) -> bool {
+    match open(rt, name) {
+        Ok(_tape) => is_refused(rt, name, OpenFault::Taken),
+        Err(_) => false,
     }
 }
 
@@ -229,15 +242,11 @@ fn one_at_a_time_has_a_regular_file(rt: HostRuntime) -> Result<(), Fail> {
     let folder = folder(&rt)?;
     let name = format!(in rt.alloc(); "{folder}/journal")?;
     let below = format!(in rt.alloc(); "{folder}/none/journal")?;
-    let Ok(tape) = open(&rt, name.as_str()) else {
-        return Err(Fail::from("a file"));
-    };
-    assert!(rt; fault_at(&rt, name.as_str()) == Some(OpenFault::Taken));
-    drop(tape);
-    assert!(rt; fault_at(&rt, name.as_str()).is_none());
-    assert!(rt; fault_at(&rt, folder.as_str()) == Some(OpenFault::NotRegular));
-    assert!(rt; fault_at(&rt, "/dev/full") == Some(OpenFault::NotRegular));
-    assert!(rt; fault_at(&rt, below.as_str()) == Some(OpenFault::System(Some(2))));
+    // The second finds it given back.
+    assert!(rt; is_taken(&rt, name.as_str()) && is_taken(&rt, name.as_str()));
+    assert!(rt; is_refused(&rt, folder.as_str(), OpenFault::NotRegular));
+    assert!(rt; is_refused(&rt, "/dev/full", OpenFault::NotRegular));
+    assert!(rt; is_refused(&rt, below.as_str(), OpenFault::System(Some(2))));
     fs::remove_dir_all(&rt, folder.as_str())?;
     Ok(())
 }

@@ -174,35 +174,40 @@ fn cuts_one_group(rt: HostRuntime) -> Result<(), Fail> {
     Ok(())
 }
 
-fn fails(rt: &impl Abort, is_right: bool, shows: &str, len: usize, calls: u64) {
-    assert!(rt; is_right, "{shows} {len} bytes, behind {calls}");
+/// Goes on with so many bytes of a file that fails: one failure is counted, and its lines are all there, torn or not.
+fn fail_and_go_on<R: Wait + Abort>(
+    rt: &R,
+    alloc: Global,
+    len: usize,
+    calls: u64,
+) -> Result<(), Why> {
+    let is_whole = calls == 4;
+    let how = if is_whole { alone(len).2 } else { How::Device };
+    let gone = go(rt, alloc, part(0, len), calls, false)?;
+    let is_counted = gone.file.failures() == u64::from(!is_whole);
+    let mut file = gone.file.into_inner();
+    file.crash(b"");
+    let again = go(rt, alloc, file.bytes(), 9, false)?;
+    let (lines, _) = kept(len.max(14));
+    let is_there = again.lines as usize == lines;
+    let is_right = gone.how == how && is_counted && is_there;
+    assert!(rt; is_right, "{len} bytes, behind {calls}");
+    Ok(())
 }
 
-// A file that fails at each call: one failure is counted, and its lines are all there, torn or not.
+// At each call.
 #[test]
 fn loses_no_line_where_it_fails(rt: HostRuntime) -> Result<(), Fail> {
     for len in 0..357usize {
         for calls in 0..5u64 {
-            let gone = go(&rt, rt.alloc(), part(0, len), calls, false)?;
-            let (lines, _) = kept(len.max(14));
-            let is_whole = calls == 4;
-            let how = if is_whole { alone(len).2 } else { How::Device };
-            fails(&rt, gone.how == how, "goes on from", len, calls);
-            let failures = if is_whole { 0 } else { 1 };
-            let is_counted = gone.file.failures() == failures;
-            fails(&rt, is_counted, "counted of", len, calls);
-            let mut file = gone.file.into_inner();
-            file.crash(b"");
-            let again = go(&rt, rt.alloc(), file.bytes(), 9, false)?;
-            let is_there = again.lines as usize == lines;
-            fails(&rt, is_there, "lines of", len, calls);
+            fail_and_go_on(&rt, rt.alloc(), len, calls)?;
         }
     }
     Ok(())
 }
 
-/// Goes on, asks for all that is wanting of the worked lines, and ends.
-fn finished<R: Wait>(rt: &R, alloc: Global, file: &[u8]) -> Result<Fuse<TornTape>, Why> {
+/// Goes on with a file that does not fail: a desk, and how many lines it has found.
+fn gone_on<R: Wait>(rt: &R, alloc: Global, file: &[u8]) -> Result<(Desk, usize), Why> {
     if file.len() > 1_000_000 {
         return Err(Why::File);
     }
@@ -212,7 +217,6 @@ fn finished<R: Wait>(rt: &R, alloc: Global, file: &[u8]) -> Result<Fuse<TornTape
     let Ok(own) = Vec::from_slice(alloc, file) else {
         return Err(Why::Memory);
     };
-    let lines = worked(alloc)?;
     let tape = Fuse::new(TornTape::over(own), 99);
     let mut beside = TornTape::over(Vec::new(alloc));
     let Ok((serving, viewers, _)) = Serving::go_on(
@@ -229,10 +233,16 @@ fn finished<R: Wait>(rt: &R, alloc: Global, file: &[u8]) -> Result<Fuse<TornTape
         return Err(Why::Journal);
     };
     let found = 20u32.saturating_sub(serving.room()) as usize;
-    let Ok(desk) = seated(rt, serving, viewers) else {
-        return Err(Why::Viewer);
-    };
-    let mut desk = desk;
+    match seated(rt, serving, viewers) {
+        Ok(desk) => Ok((desk, found)),
+        Err(_) => Err(Why::Viewer),
+    }
+}
+
+/// Goes on, asks for all that is wanting of the worked lines, and ends.
+fn finished<R: Wait>(rt: &R, alloc: Global, file: &[u8]) -> Result<Fuse<TornTape>, Why> {
+    let lines = worked(alloc)?;
+    let (mut desk, found) = gone_on(rt, alloc, file)?;
     let asked = ask_rest(rt, alloc, &mut desk, found, lines.as_slice());
     match desk.end(rt, alloc) {
         Ok((_, tape)) => {

@@ -156,11 +156,11 @@ fn ends_with_the_headline(rt: HostRuntime) -> Result<(), Fail> {
         let Ok((ended, file)) = desk.end(&rt, rt.alloc()) else {
             return Err(Fail::from("an end"));
         };
-        assert!(rt; has_totals(&ended), "totals");
-        assert!(rt; has_receipts(&ended, lines.as_slice()), "receipts");
-        assert!(rt; file.failures() == 0, "no failure");
+        let is_told = has_totals(&ended) && has_receipts(&ended, lines.as_slice());
+        assert!(rt; is_told, "totals and receipts");
+        let is_whole = file.failures() == 0;
         let is_closed = is_closed(rt.alloc(), file.into_inner(), whole.as_slice())?;
-        assert!(rt; is_closed, "a clean stop");
+        assert!(rt; is_whole && is_closed, "a clean stop");
     }
     Ok(())
 }

@@ -231,44 +231,42 @@ fn count(counts: &mut Counts, leaving: &Leaving, found: &Recovered) {
     }
 }
 
+/// Whether what was told is found in what a crash left, and the same once more.
+fn find(
+    alloc: Global,
+    counts: &mut Counts,
+    lines: &[Entry],
+    leaving: &mut Leaving,
+    tear: u32,
+) -> Result<bool, Why> {
+    match recovered(alloc, grid(alloc)?, CAP, leaving.file.bytes()) {
+        Ok(found) => {
+            count(counts, leaving, &found);
+            Ok(
+                is_right(alloc, lines, leaving, &found, tear)?
+                    && is_found_again(alloc, leaving, &found)?,
+            )
+        }
+        // Only of a head that was on its way.
+        Err(RecoveryFault::Head) => Ok(!leaving.has_head),
+        Err(RecoveryFault::Memory) => Err(Why::Memory),
+    }
+}
+
 fn try_crash<R: Wait>(
     rt: &R,
     alloc: Global,
     lots: &mut Lots,
     counts: &mut Counts,
-) -> Result<(), Why> {
+) -> Result<bool, Why> {
     let asking = draw_asking(alloc, lots)?;
-    let lines = asking.core.journal();
-    let calls = lots.below(
-        (asking.groups.len().min(8) as u32)
-            .saturating_mul(2)
-            .saturating_add(4),
-    );
+    let groups = asking.groups.len().min(8) as u32;
+    let calls = lots.below(groups.saturating_mul(2).saturating_add(4));
     let tear = lots.below(4);
     let mut leaving = leave(rt, alloc, &asking, u64::from(calls))?;
+    let lines = asking.core.journal();
     crash(alloc, lots, &mut leaving, lines, tear)?;
-    match recovered(alloc, grid(alloc)?, CAP, leaving.file.bytes()) {
-        Ok(found) => {
-            count(counts, &leaving, &found);
-            if !is_right(alloc, lines, &leaving, &found, tear)? {
-                return Err(Why::WhatWasTold);
-            }
-            if is_found_again(alloc, &mut leaving, &found)? {
-                Ok(())
-            } else {
-                Err(Why::TheSameAgain)
-            }
-        }
-        // Only of a head that was on its way.
-        Err(RecoveryFault::Head) => {
-            if leaving.has_head {
-                Err(Why::TheHead)
-            } else {
-                Ok(())
-            }
-        }
-        Err(RecoveryFault::Memory) => Err(Why::Memory),
-    }
+    find(alloc, counts, lines, &mut leaving, tear)
 }
 
 #[test]
@@ -282,7 +280,7 @@ fn finds_what_was_told_by_lot(rt: HostRuntime) -> Result<(), Fail> {
     };
     for crash in 0..10000u32 {
         let tried = try_crash(&rt, rt.alloc(), &mut lots, &mut counts);
-        holds_at(&rt, tried.is_ok(), "crash", crash as usize);
+        holds_at(&rt, matches!(tried, Ok(true)), "crash", crash as usize);
     }
     // The lots are no few of each kind.
     holds_at(&rt, counts.told > 2500, "told", counts.told as usize);
