@@ -1,6 +1,6 @@
 //! Lines that close and open classes, spoilt in each field: a replay in order, by flights and in parts names the same line and fault.
 use crate::part_tests::{compare, fault_at, front};
-use crate::texts::{LINES_OF_CLOSINGS, SAME_LADDERS};
+use crate::texts::{LINES_OF_CLOSINGS, SAME_LADDERS, joined};
 use crate::trial::entries;
 use crate::wants::Why;
 use crate::worked_set::{TWO_LEGS, grid};
@@ -120,12 +120,7 @@ const RIGHT: &[Instead] = &[
 
 /// The entry that a line of a journal is.
 fn entry_of(alloc: Global, line: &[u8]) -> Result<Entry, Why> {
-    let mut text = Vec::new(alloc);
-    for part in [b"SEATJOURNAL 2\n".as_slice(), line, b"\nEND 1\n".as_slice()] {
-        if text.extend_from_slice(part).is_err() {
-            return Err(Why::Memory);
-        }
-    }
+    let text = joined(alloc, &[b"SEATJOURNAL 2\n", line, b"\nEND 1\n"])?;
     match entries(alloc, text.as_slice())?.as_slice() {
         [entry] => match entry.copy(alloc) {
             Ok(copy) => Ok(copy),

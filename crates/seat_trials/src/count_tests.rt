@@ -1,11 +1,10 @@
 //! Counters by themselves: seats that are taken and given back, limits that are set under them; ladders of given steps.
 use crate::trial::{Legs, place_of};
-use crate::wants::Why;
+use crate::wants::{Why, holds_at};
 use crate::worked_set::{TWO_LEGS, grid};
 use airline_base::{Class, Place};
 use seat_nesting::{Counts, Ladder, LadderFault, Step};
 use std::alloc::Global;
-use std::process::Abort;
 use std::test::Fail;
 
 /// What is done with counters, or asked of them.
@@ -329,8 +328,8 @@ fn code_of_one(letter: u8, limit: u16, wait: u16) -> u8 {
 /// What no text can spell: no step, and more than three digits.
 #[test]
 fn steps_without_a_text(rt: HostRuntime) {
-    assert!(rt; code_of(&[]) == 1, "L1");
-    assert!(rt; code_of_one(b'F', 1000, 0) == 4, "L4 of a limit");
-    assert!(rt; code_of_one(b'F', 1, 1000) == 4, "L4 of a wait");
-    assert!(rt; code_of_one(b'F', 999, 999) == 0, "a ladder");
+    holds_at(&rt, code_of(&[]) == 1, "L1 of steps", 0);
+    holds_at(&rt, code_of_one(b'F', 1000, 0) == 4, "L4 of a limit", 1000);
+    holds_at(&rt, code_of_one(b'F', 1, 1000) == 4, "L4 of a wait", 1000);
+    holds_at(&rt, code_of_one(b'F', 999, 999) == 0, "a ladder", 999);
 }

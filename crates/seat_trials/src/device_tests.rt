@@ -1,6 +1,6 @@
 //! Reading and writing over devices that fail, stop early or take little at a time.
 use crate::failing::{FailingReader, FailingWriter, Stop};
-use crate::wants::Why;
+use crate::wants::{Why, holds_at};
 use crate::worked_set::{NO_LEGS, records};
 use airline_base::{Counted, Failures, ReadFault, put_all, read_all};
 use std::alloc::Global;
@@ -36,12 +36,7 @@ fn reads(alloc: Global, row: Reading) -> bool {
 #[test]
 fn reads_until_the_end(rt: HostRuntime) {
     for row in READINGS {
-        assert!(rt;
-            reads(rt.alloc(), row),
-            "at most {}, failing at {}",
-            row.1,
-            row.0
-        );
+        holds_at(&rt, reads(rt.alloc(), row), "failing at", row.0 as usize);
     }
 }
 
@@ -57,15 +52,15 @@ fn len_of(alloc: Global, bytes: &[u8], max: u64) -> Result<usize, ReadFault> {
 #[test]
 fn reads_more_than_a_piece(rt: HostRuntime) {
     let long = [b'Z'; 10_000];
-    assert!(rt; len_of(rt.alloc(), &long, 9_999) == Err(ReadFault::TooLarge));
-    assert!(rt; len_of(rt.alloc(), &long, 10_000) == Ok(10_000));
+    let is_too_large = len_of(rt.alloc(), &long, 9_999) == Err(ReadFault::TooLarge);
+    assert!(rt; is_too_large && len_of(rt.alloc(), &long, 10_000) == Ok(10_000));
 }
 
 #[test]
 fn reads_a_data_set_of_600_bytes(rt: HostRuntime) -> Result<(), Fail> {
     let set = records(rt.alloc(), NO_LEGS).ok_or(Why::Set)?;
-    assert!(rt; len_of(rt.alloc(), set.as_slice(), 599) == Err(ReadFault::TooLarge));
-    assert!(rt; len_of(rt.alloc(), set.as_slice(), 600) == Ok(600));
+    let is_too_large = len_of(rt.alloc(), set.as_slice(), 599) == Err(ReadFault::TooLarge);
+    assert!(rt; is_too_large && len_of(rt.alloc(), set.as_slice(), 600) == Ok(600));
     Ok(())
 }
 
@@ -74,12 +69,12 @@ fn writes(rt: &impl Abort, alloc: Global, stop: Stop, left: usize) {
     let inner = FailingWriter::new(Vec::new(alloc), 1, left as u64, stop);
     let mut out = Counted::new(inner);
     let whole = left >= TEXT.len();
-    assert!(rt; puts(&mut out, whole), "after {left}");
+    holds_at(rt, puts(&mut out, whole), "after", left);
     let fails = stop == Stop::Fails && left <= TEXT.len();
-    assert!(rt; flushes(&mut out, fails), "a flush after {left}");
+    holds_at(rt, flushes(&mut out, fails), "a flush after", left);
     let taken = out.into_inner().into_inner();
-    let front = TEXT.get(..left).unwrap_or(&TEXT);
-    assert!(rt; taken.as_slice() == front, "taken after {left}");
+    let front = &TEXT[..left.min(TEXT.len())];
+    holds_at(rt, taken.as_slice() == front, "taken after", left);
 }
 
 /// Whether the whole text is taken, or a failure is counted.
@@ -104,7 +99,7 @@ fn writes_all_or_a_front(rt: HostRuntime) {
 #[test]
 fn writes_nothing_and_all(rt: HostRuntime) -> Result<(), Fail> {
     let mut out = Counted::new(Vec::new(rt.alloc()));
-    assert!(rt; put_all(&mut out, b"").is_ok() && put_all(&mut out, &TEXT).is_ok());
-    assert!(rt; out.into_inner().as_slice() == TEXT.as_slice());
+    let is_put = put_all(&mut out, b"").is_ok() && put_all(&mut out, &TEXT).is_ok();
+    assert!(rt; is_put && out.into_inner().as_slice() == TEXT.as_slice());
     Ok(())
 }

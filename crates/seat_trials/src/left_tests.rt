@@ -95,15 +95,21 @@ const LIMITS_OF_REFUSED: [Limits; 5] = [
 
 const HELD_AFTER_A_WAIT_FALLS: &[Held] = &[((0, 0, 0), b'M', 8)];
 
-/// An inventory over flights 0 and 1 that answers as these lines say, with room for so many.
-fn filled(alloc: Global, text: &[u8], cap: u32) -> Result<Trial, Why> {
-    let lines = entries(alloc, text)?;
-    let mut trial = Trial::of_two_legs(alloc, SAME_LADDERS, cap)?;
-    for line in lines.as_slice() {
+/// Steps what these lines ask, and compares each answer with its line.
+fn follow(trial: &mut Trial, lines: &[Entry]) -> Result<(), Why> {
+    for line in lines {
         if !are_same(trial.step(line.session, line.work)?, line) {
             return Err(Why::OtherLine);
         }
     }
+    Ok(())
+}
+
+/// An inventory over flights 0 and 1 that answers as these lines say, with room for so many.
+fn filled(alloc: Global, text: &[u8], cap: u32) -> Result<Trial, Why> {
+    let lines = entries(alloc, text)?;
+    let mut trial = Trial::of_two_legs(alloc, SAME_LADDERS, cap)?;
+    follow(&mut trial, lines.as_slice())?;
     trial.has_text(text)?;
     Ok(trial)
 }
@@ -234,11 +240,14 @@ fn one_flight(rt: HostRuntime) -> Result<(), Fail> {
     Ok(trial.part(2)?.has_text(NO_LINES)?)
 }
 
-fn is_full(trial: &mut Trial, line: &Entry) -> bool {
-    match trial.step(line.session, line.work) {
-        Ok(_) => false,
-        Err(why) => why == Why::JournalFull,
+fn are_full(trial: &mut Trial, lines: &[Entry]) -> bool {
+    for line in lines {
+        let answer = trial.step(line.session, line.work);
+        if !matches!(answer, Err(Why::JournalFull)) {
+            return false;
+        }
     }
+    true
 }
 
 /// Each of two lines is asked once more, which a full journal refuses without a change.
@@ -247,8 +256,7 @@ fn no_place_and_a_full_journal(rt: HostRuntime) -> Result<(), Fail> {
     let mut trial = filled(rt.alloc(), LINES_WITHOUT_PLACE, 2)?;
     let lines = entries(rt.alloc(), LINES_WITHOUT_PLACE)?;
     let before = trial.shown();
-    for line in lines.as_slice() {
-        assert!(rt; is_full(&mut trial, line), "a line beyond the last");
-    }
+    let are_refused = are_full(&mut trial, lines.as_slice());
+    assert!(rt; are_refused, "a line beyond the last");
     Ok(is_same(&trial, before)?)
 }

@@ -4,6 +4,8 @@ ghost use Rattle.seat_seal.specs.Imprints.{imprint_of};
 ghost use Rattle.seat_seal.specs.Fronts.{front_of};
 
 use crate::replaced_tests::keeps;
+use crate::texts::joined;
+use crate::wants::{Why, holds_at};
 use airline_base::Failures;
 use seat_disk::{Folder, Fuse};
 use seat_seal::{
@@ -145,24 +147,18 @@ fn journal_left(row: &Row, crash: Crash) -> &'static [u8] {
     NEW
 }
 
-fn seal_left(alloc: Global, row: &Row, crash: Crash) -> Result<Vec<u8>, AllocError> {
+fn seal_left(alloc: Global, row: &Row, crash: Crash) -> Result<Vec<u8>, Why> {
     if crash.calls < 5 || (crash.calls == 5 && crash.seal_back) {
-        return Vec::from_slice(alloc, row.seal);
+        return joined(alloc, &[row.seal]);
     }
-    let mut text = Vec::from_slice(alloc, HEAD)?;
     if crash.calls < 16 || (crash.calls == 16 && crash.seal_back) {
-        text.extend_from_slice(row.entry)?;
-        text.extend_from_slice(ENTRY_OF_NEW)?;
-        text.extend_from_slice(row.digest)?;
-        return Ok(text);
+        return joined(alloc, &[HEAD, row.entry, ENTRY_OF_NEW, row.digest]);
     }
-    text.extend_from_slice(ENTRY_OF_NEW)?;
-    text.extend_from_slice(DIGEST_OF_NEW)?;
-    Ok(text)
+    joined(alloc, &[HEAD, ENTRY_OF_NEW, DIGEST_OF_NEW])
 }
 
-fn fused(alloc: Global, bytes: &[u8], calls: u64) -> Result<Fuse<Folder>, AllocError> {
-    let bytes = Vec::from_slice(alloc, bytes)?;
+fn fused(alloc: Global, bytes: &[u8], calls: u64) -> Result<Fuse<Folder>, Why> {
+    let bytes = joined(alloc, &[bytes])?;
     Ok(Fuse::new(Folder::over(alloc, bytes), calls))
 }
 
@@ -190,14 +186,14 @@ fn replace_and_crash<R: Abort>(
     alloc: Global,
     row: &Row,
     crash: Crash,
-) -> Result<(Folder, Folder), AllocError> {
+) -> Result<(Folder, Folder), Why> {
     let calls = crash.calls;
     let mut journal = fused(alloc, row.journal, journal_calls(calls))?;
     let mut seal = fused(alloc, row.seal, seal_calls(calls))?;
     let is_whole = is_replaced(rt, row, &mut journal, &mut seal);
-    assert!(rt; is_whole == (calls == 17), "Ok behind {calls}");
     let failures = journal.failures().saturating_add(seal.failures());
-    assert!(rt; failures == u64::from(!is_whole), "failures behind {calls}");
+    let is_told = is_whole == (calls == 17) && failures == u64::from(!is_whole);
+    holds_at(rt, is_told, "Ok and failures behind", calls as usize);
     Ok((
         crashed(journal, crash.journal_back),
         crashed(seal, crash.seal_back),
@@ -210,31 +206,26 @@ fn is_sealed(row: &Row, journal: &Folder, seal: &Folder) -> bool {
     is_found(seal.bytes(), journal.bytes()) != has_none
 }
 
-fn try_crash<R: Abort>(rt: &R, alloc: Global, row: &Row, crash: Crash) -> Result<(), AllocError> {
-    let calls = crash.calls;
+/// Whether what the names have is kept, once the calls that keep it have passed.
+fn are_kept(row: &Row, journal: &Folder, seal: &Folder, calls: u64) -> bool {
+    keeps(seal, row.seal, calls >= 4) && keeps(journal, row.journal, calls >= 10)
+}
+
+fn try_crash<R: Abort>(rt: &R, alloc: Global, row: &Row, crash: Crash) -> Result<(), Why> {
+    let at = crash.calls as usize;
     let (journal, seal) = replace_and_crash(rt, alloc, row, crash)?;
+    let is_left = journal.bytes() == journal_left(row, crash);
+    holds_at(rt, is_left, "journal behind", at);
     let wanted = seal_left(alloc, row, crash)?;
-    assert!(rt;
-        journal.bytes() == journal_left(row, crash),
-        "journal behind {calls}"
-    );
-    assert!(rt; seal.bytes() == wanted.as_slice(), "seal behind {calls}");
-    assert!(rt;
-        is_sealed(row, &journal, &seal),
-        "what a reader finds behind {calls}"
-    );
-    assert!(rt;
-        keeps(&seal, row.seal, calls >= 4),
-        "the kept seal behind {calls}"
-    );
-    assert!(rt;
-        keeps(&journal, row.journal, calls >= 10),
-        "the kept journal behind {calls}"
-    );
+    holds_at(rt, seal.bytes() == wanted.as_slice(), "seal behind", at);
+    let is_sealed = is_sealed(row, &journal, &seal);
+    holds_at(rt, is_sealed, "what a reader finds behind", at);
+    let are_kept = are_kept(row, &journal, &seal, crash.calls);
+    holds_at(rt, are_kept, "what is kept behind", at);
     Ok(())
 }
 
-fn try_each_crash<R: Abort>(rt: &R, alloc: Global, row: &Row) -> Result<(), AllocError> {
+fn try_each_crash<R: Abort>(rt: &R, alloc: Global, row: &Row) -> Result<(), Why> {
     for calls in 0..18u64 {
         for (journal_back, seal_back) in [
             (false, false),
@@ -297,8 +288,7 @@ fn passes_over_a_seal_of_another_journal(rt: HostRuntime) -> Result<(), Fail> {
         SealEntry::Other(whole) => *whole == imprint_of(NEW),
         SealEntry::Sealed(_) => false,
     };
-    assert!(rt; is_other);
-    assert!(rt; !is_found(OF_OLD, NEW));
+    assert!(rt; is_other && !is_found(OF_OLD, NEW));
     Ok(())
 }
 
@@ -378,7 +368,7 @@ fn are_known(
     Ok(true)
 }
 
-const SCRIPTS: [(&[u8], bool); 8] = [
+const SCRIPTS: &[(&[u8], bool)] = &[
     (b"monday", true),
     (b"tuesday", false),
     (b"more", true),
@@ -390,15 +380,26 @@ const SCRIPTS: [(&[u8], bool); 8] = [
     (b"", false),
 ];
 
+const AHEAD: &[(&[u8], bool)] = &[(b"monday", true), (b"grown", false)];
+
 // A run takes the place of those that began behind as many lines, and leaves the others, whatever their day.
 #[test]
 fn keeps_the_runs_behind_other_numbers(rt: HostRuntime) -> Result<(), Fail> {
     let runs = runs_behind_numbers();
-    assert!(rt; runs.as_slice().len() == 3);
-    assert!(rt; lines_behind(runs.as_slice()) == 3);
-    assert!(rt; are_known(rt.alloc(), None, &runs, &SCRIPTS)?);
-    let ahead: [(&[u8], bool); 2] = [(b"monday", true), (b"grown", false)];
-    assert!(rt; are_known(rt.alloc(), Some(3), &runs, &ahead)?);
+    let are_three = runs.as_slice().len() == 3 && lines_behind(runs.as_slice()) == 3;
+    holds_at(&rt, are_three, "runs", 3);
+    holds_at(
+        &rt,
+        are_known(rt.alloc(), None, &runs, SCRIPTS)?,
+        "of all",
+        0,
+    );
+    holds_at(
+        &rt,
+        are_known(rt.alloc(), Some(3), &runs, AHEAD)?,
+        "ahead of",
+        3,
+    );
     Ok(())
 }
 
@@ -409,9 +410,8 @@ fn keeps_the_last_runs(rt: HostRuntime) -> Result<(), Fail> {
     for behind in 0..130u32 {
         runs.add(run(behind, 19, b"monday"));
     }
-    assert!(rt; runs.as_slice().len() == 128);
-    assert!(rt; runs.as_slice()[0].behind == 2);
-    assert!(rt; lines_behind(runs.as_slice()) == 129);
+    let are_all = runs.as_slice().len() == 128 && lines_behind(runs.as_slice()) == 129;
+    assert!(rt; are_all && runs.as_slice()[0].behind == 2);
     Ok(())
 }
 

@@ -1,5 +1,5 @@
 //! Data sets that end too early or have a wrong byte, wherever that is, and too many records or flights.
-use crate::wants::Why;
+use crate::wants::{Why, holds_at};
 use crate::worked_set::{NO_LEGS, ONE_LEG, expanded, records};
 use ssim_records::{DataSet, SetFault, SetKind, read_set};
 use std::alloc::{AllocError, Global};
@@ -30,12 +30,11 @@ fn cuts_and_wrong_bytes(rt: HostRuntime) -> Result<(), Fail> {
             _ => SetKind::Short,
         };
         let nth = (n / 200 + 1) as u32;
-        assert!(rt; is_refused(rt.alloc(), &whole[..n], nth, want), "{n} bytes");
+        let is_cut = is_refused(rt.alloc(), &whole[..n], nth, want);
+        holds_at(&rt, is_cut, "bytes", n);
         let changed = changed(&whole, n)?;
-        assert!(rt;
-            is_refused(rt.alloc(), &changed, nth, SetKind::BadByte),
-            "0xFF at {n}"
-        );
+        let is_wrong = is_refused(rt.alloc(), &changed, nth, SetKind::BadByte);
+        holds_at(&rt, is_wrong, "0xFF at", n);
     }
     Ok(())
 }
@@ -52,9 +51,8 @@ fn changed(whole: &Vec<u8>, n: usize) -> Result<Vec<u8>, AllocError> {
 #[test]
 fn records_beyond_the_most(rt: HostRuntime) -> Result<(), Fail> {
     let whole = records(rt.alloc(), NO_LEGS).ok_or(Why::Set)?;
-    let is_told = is_too_many(rt.alloc(), &whole)?;
-    assert!(rt; is_told, "three records are read where two may be");
-    assert!(rt; is_read(rt.alloc(), &whole), "three records are refused");
+    holds_at(&rt, is_too_many(rt.alloc(), &whole)?, "three records of", 2);
+    holds_at(&rt, is_read(rt.alloc(), &whole), "three records of", 3);
     Ok(())
 }
 
@@ -72,26 +70,23 @@ fn is_read(alloc: Global, bytes: &[u8]) -> bool {
     }
 }
 
-/// How many flights the set has, or the text of its fault.
-fn flights_of(alloc: Global, most: u32) -> Result<Option<Result<u32, String>>, AllocError> {
-    let Some(found) = expanded(alloc, ONE_LEG, most) else {
-        return Ok(None);
-    };
-    Ok(Some(match found {
-        Ok(flights) => Ok(flights.len()),
-        Err(fault) => Err(fault.to_string(alloc)?),
-    }))
+fn are_too_many(alloc: Global, most: u32) -> Result<bool, AllocError> {
+    match expanded(alloc, ONE_LEG, most) {
+        Some(Err(fault)) => Ok(fault.to_string(alloc)?.as_str() == "F8 3"),
+        _ => Ok(false),
+    }
+}
+
+fn are_two(alloc: Global, most: u32) -> bool {
+    match expanded(alloc, ONE_LEG, most) {
+        Some(Ok(flights)) => flights.len() == 2,
+        _ => false,
+    }
 }
 
 #[test]
 fn flights_beyond_the_most(rt: HostRuntime) -> Result<(), Fail> {
-    match flights_of(rt.alloc(), 1)? {
-        Some(Err(fault)) => assert!(rt; fault.as_str() == "F8 3"),
-        _ => assert!(rt; false, "two flights are there where one may be"),
-    }
-    match flights_of(rt.alloc(), 2)? {
-        Some(Ok(count)) => assert!(rt; count == 2),
-        _ => assert!(rt; false, "two flights are refused"),
-    }
+    holds_at(&rt, are_too_many(rt.alloc(), 1)?, "two flights of", 1);
+    holds_at(&rt, are_two(rt.alloc(), 2), "two flights of", 2);
     Ok(())
 }

@@ -1,4 +1,5 @@
 //! A file that is appended to, crashed at each call and torn at its end.
+use crate::wants::{Why, holds_at};
 use airline_base::{Failures, ReadFault};
 use seat_disk::{Fuse, Tape, TornTape, keep};
 use std::alloc::Global;
@@ -9,8 +10,11 @@ const KEPT: [u8; 4] = *b"1 a\n";
 
 const LINE: [u8; 4] = *b"2 b\n";
 
-fn tape(alloc: Global) -> Result<TornTape, Fail> {
-    Ok(TornTape::over(Vec::from_slice(alloc, &KEPT)?))
+fn tape(alloc: Global) -> Result<TornTape, Why> {
+    match Vec::from_slice(alloc, &KEPT) {
+        Ok(bytes) => Ok(TornTape::over(bytes)),
+        Err(_) => Err(Why::Memory),
+    }
 }
 
 /// Behind how many calls the file fails, what a crash leaves of what was on its way, and what the file has then.
@@ -62,15 +66,12 @@ const CRASHES: &[Crash] = &[
 #[test]
 fn keeps_what_was_told(rt: HostRuntime) -> Result<(), Fail> {
     for row in CRASHES {
-        let calls = row.calls;
-        let mut fused = Fuse::new(tape(rt.alloc())?, calls);
-        assert!(rt;
-            is_kept(&mut fused, calls),
-            "Ok, usable and failures after {calls}"
-        );
+        let mut fused = Fuse::new(tape(rt.alloc())?, row.calls);
+        let is_told = is_kept(&mut fused, row.calls);
         let mut file = fused.into_inner();
         file.crash(row.torn);
-        assert!(rt; file.bytes() == row.left, "left after {calls}");
+        let is_right = is_told && file.bytes() == row.left;
+        holds_at(&rt, is_right, "after", row.calls as usize);
     }
     Ok(())
 }
@@ -87,8 +88,8 @@ fn is_kept(fused: &mut Fuse<TornTape>, calls: u64) -> bool {
 #[test]
 fn syncs_no_more_behind_a_lost_sync(rt: HostRuntime) -> Result<(), Fail> {
     let mut fused = Fuse::new(tape(rt.alloc())?, 0);
-    assert!(rt; refuses_all(rt.alloc(), &mut fused) && fused.failures() == 5);
-    assert!(rt; fused.into_inner().bytes() == KEPT.as_slice());
+    let is_told = refuses_all(rt.alloc(), &mut fused) && fused.failures() == 5;
+    assert!(rt; is_told && fused.into_inner().bytes() == KEPT.as_slice());
     Ok(())
 }
 
@@ -100,40 +101,39 @@ fn refuses_all(alloc: Global, fused: &mut Fuse<TornTape>) -> bool {
         && fused.read_all(alloc, 9).is_err()
 }
 
-/// A file of two lines, cut behind so many bytes.
-fn cut(alloc: Global, len: u64) -> Result<TornTape, Fail> {
-    let mut file = tape(alloc)?;
-    keep(&mut file, &LINE)?;
-    file.cut(len)?;
-    Ok(file)
+/// What is read of a file of two lines that is cut behind so many bytes, where there may be so many.
+fn read(alloc: Global, len: u64, max: u64) -> Result<Vec<u8>, ReadFault> {
+    let Ok(mut file) = tape(alloc) else {
+        return Err(ReadFault::Memory);
+    };
+    if keep(&mut file, &LINE).is_err() || file.cut(len).is_err() {
+        return Err(ReadFault::Device);
+    }
+    file.read_all(alloc, max)
 }
 
-/// Whether these bytes are read of such a file, where there may be so many.
-fn is_read(alloc: Global, len: u64, max: u64, want: &[u8]) -> Result<bool, Fail> {
-    match cut(alloc, len)?.read_all(alloc, max) {
-        Ok(found) => Ok(found.as_slice() == want),
-        Err(_) => Ok(false),
+fn is_read(alloc: Global, len: u64, max: u64, want: &[u8]) -> bool {
+    match read(alloc, len, max) {
+        Ok(found) => found.as_slice() == want,
+        Err(_) => false,
     }
 }
 
 #[test]
-fn cuts_and_reads(rt: HostRuntime) -> Result<(), Fail> {
-    assert!(rt; is_read(rt.alloc(), 9, 8, b"1 a\n2 b\n")?);
-    assert!(rt; is_read(rt.alloc(), 4, 4, b"1 a\n")?);
-    assert!(rt; is_read(rt.alloc(), 3, 9, b"1 a")?);
-    assert!(rt; is_read(rt.alloc(), 0, 0, b"")?);
-    let mut file = cut(rt.alloc(), 8)?;
-    let is_too_large = matches!(file.read_all(rt.alloc(), 7), Err(ReadFault::TooLarge));
-    assert!(rt; is_too_large, "eight bytes where seven may be");
-    Ok(())
+fn cuts_and_reads(rt: HostRuntime) {
+    holds_at(&rt, is_read(rt.alloc(), 9, 8, b"1 a\n2 b\n"), "cut at", 9);
+    holds_at(&rt, is_read(rt.alloc(), 4, 4, b"1 a\n"), "cut at", 4);
+    holds_at(&rt, is_read(rt.alloc(), 3, 9, b"1 a"), "cut at", 3);
+    holds_at(&rt, is_read(rt.alloc(), 0, 0, b""), "cut at", 0);
+    let is_too_large = matches!(read(rt.alloc(), 8, 7), Err(ReadFault::TooLarge));
+    holds_at(&rt, is_too_large, "cut at", 8);
 }
 
 #[test]
 fn keeps_nothing_more(rt: HostRuntime) -> Result<(), Fail> {
     let mut file = tape(rt.alloc())?;
-    assert!(rt; keep(&mut file, b"").is_ok());
-    assert!(rt; file.failures() == 0);
+    let is_kept = keep(&mut file, b"").is_ok() && file.failures() == 0;
     file.crash(b"torn");
-    assert!(rt; file.bytes() == KEPT.as_slice());
+    assert!(rt; is_kept && file.bytes() == KEPT.as_slice());
     Ok(())
 }

@@ -1,4 +1,17 @@
 //! Journals and limits of the tests, as text. What they say of each other is worked by hand.
+use crate::wants::Why;
+use std::alloc::Global;
+
+/// These texts, one behind the other.
+pub fn joined(alloc: Global, parts: &[&[u8]]) -> Result<Vec<u8>, Why> {
+    let mut text = Vec::new(alloc);
+    for part in parts {
+        if text.extend_from_slice(part).is_err() {
+            return Err(Why::Memory);
+        }
+    }
+    Ok(text)
+}
 
 /// Each leg of flights 0 and 1 with one ladder.
 pub const SAME_LADDERS: &[u8] = b"AU XX123 15JUN24 16JUN24 LHRJFK F010/000 Y008/000 M005/004

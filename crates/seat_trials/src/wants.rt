@@ -1,7 +1,8 @@
 //! What a test wanted, and did not find.
+use std::process::Abort;
 
 /// Why a test failed. It refers to nothing, so that a function that may fail carries a short type.
-#[derive(Clone, Copy, Debug, PartialEq, Eq)]
+#[derive(Clone, Copy, Debug)]
 pub enum Why {
     /// A growth was refused.
     Memory,
@@ -42,4 +43,9 @@ pub enum Why {
     Fields,
     Stopped,
     FrontOfAText,
+}
+
+/// Stops where this is wrong, at a place of a table or of a text.
+pub fn holds_at(rt: &impl Abort, is_right: bool, shows: &str, at: usize) {
+    assert!(rt; is_right, "{shows} {at}");
 }

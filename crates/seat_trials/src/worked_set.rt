@@ -40,7 +40,9 @@ pub const ONE_LEG: &[u8] = b"1AIRLINE STANDARD SCHEDULE DATA SET     1~    00100
 
 fn put_blanks(bytes: &mut Vec<u8>, times: usize) -> Option<()> {
     for _ in 0..times {
-        bytes.push(b' ').ok()?;
+        if bytes.push(b' ').is_err() {
+            return None;
+        }
     }
     Some(())
 }
@@ -53,33 +55,33 @@ pub fn records(alloc: Global, text: &[u8]) -> Option<Vec<u8>> {
             let blanks = 187usize.saturating_sub(bytes.len() % 200);
             put_blanks(&mut bytes, blanks)?;
         } else if *byte != b'\n' {
-            bytes.push(*byte).ok()?;
+            if bytes.push(*byte).is_err() {
+                return None;
+            }
         }
     }
     Some(bytes)
 }
 
-fn set_of(alloc: Global, bytes: &[u8]) -> Option<DataSet>
+fn set_of(alloc: Global, text: &[u8]) -> Option<DataSet>
     ensures { IfSome result IsRightSet }
 {
+    let bytes = records(alloc, text)?;
     if bytes.len() > 65_536 {
         return None;
     }
-    match read_set(alloc, bytes, 999) {
+    match read_set(alloc, &bytes, 999) {
         Ok(set) => Some(set),
         Err(_) => None,
     }
 }
 
-fn first_day() -> Option<Day> {
-    Day::of(2024, 6, 1)
-}
-
 /// The flights of a data set from 1 June 2024 on, at most so many, or why there are none.
 pub fn expanded(alloc: Global, text: &[u8], most: u32) -> Option<Result<Flights, FlightFault>> {
-    let bytes = records(alloc, text)?;
-    let set = set_of(alloc, &bytes)?;
-    let first = first_day()?;
+    let set = set_of(alloc, text)?;
+    let Some(first) = Day::of(2024, 6, 1) else {
+        return None;
+    };
     let number = first.number();
     if number < 10_957 || number > 47_481 || most < 1 || most > 100_000 {
         return None;
