@@ -7,7 +7,7 @@ use std::alloc::AllocError;
 use std::fmt;
 
 /// Why a line is no segment line. Of several faults it is the first from left to right.
-#[derive(Clone, Copy, Debug, PartialEq, Eq)]
+#[derive(Clone, Copy)]
 pub enum LineFault {
     /// Fewer than 20 bytes or more than 69.
     Length,
@@ -58,7 +58,7 @@ fn line_code(fault: LineFault) -> &'static str
 }
 
 /// Why a line of a script is refused.
-#[derive(Clone, Copy, Debug, PartialEq, Eq)]
+#[derive(Clone, Copy)]
 pub enum ScriptKind {
     /// The first line of a message has no locator in its place.
     Locator,
@@ -94,7 +94,7 @@ impl From<AllocError> for ScriptKind {
 }
 
 /// The first line of a script that is refused, and why.
-#[derive(Clone, Copy, Debug, PartialEq, Eq)]
+#[derive(Clone, Copy)]
 pub struct ScriptFault {
     /// The number of the line; lines count from 1, empty ones too.
     pub line: u32,

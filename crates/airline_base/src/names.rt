@@ -6,7 +6,7 @@ ghost use Rattle.airline_base.specs.Names.{is_station, is_airline, is_code, is_l
 use std::marker::Model;
 
 /// A city or an airport: three letters A to Z (IATA location identifier).
-#[derive(Clone, Copy, Debug, PartialEq, Eq, Hash)]
+#[derive(Clone, Copy, PartialEq, Eq, Hash)]
 pub struct Station {
     letters: [u8; 3],
 }
@@ -46,7 +46,7 @@ impl Station {
 }
 
 /// An airline: two of A to Z and 0 to 9, at least one a letter (IATA designator).
-#[derive(Clone, Copy, Debug, PartialEq, Eq, Hash)]
+#[derive(Clone, Copy, PartialEq, Eq, Hash)]
 pub struct Airline {
     characters: [u8; 2],
 }
@@ -88,7 +88,7 @@ impl Airline {
 }
 
 /// A request or reply code: two letters A to Z (AIRIMP).
-#[derive(Clone, Copy, Debug, PartialEq, Eq)]
+#[derive(Clone, Copy, PartialEq, Eq)]
 pub struct Code {
     pair: [u8; 2],
 }
@@ -133,7 +133,7 @@ impl Code {
 }
 
 /// A booking class: one letter A to Z.
-#[derive(Clone, Copy, Debug, PartialEq, Eq)]
+#[derive(Clone, Copy, PartialEq, Eq)]
 pub struct Class {
     byte: u8,
 }
@@ -169,7 +169,7 @@ impl Class {
 }
 
 /// The name of a booking record: six of A to Z and 0 to 9.
-#[derive(Clone, Copy, Debug, PartialEq, Eq)]
+#[derive(Clone, Copy, PartialEq, Eq)]
 pub struct Locator {
     name: [u8; 6],
 }

@@ -11,7 +11,7 @@ use std::fmt;
 const PIECE: usize = 64 * 1024;
 
 /// Why a reader was not read to its end.
-#[derive(Clone, Copy, Debug, PartialEq, Eq)]
+#[derive(Clone, Copy, PartialEq, Eq)]
 pub enum ReadFault {
     /// The reader failed. An interrupted read is a failure too.
     Device,

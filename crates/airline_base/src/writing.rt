@@ -7,7 +7,7 @@ use super::counted::NotedWrite;
 use std::fmt;
 
 /// Why a writer did not take all bytes.
-#[derive(Clone, Copy, Debug, PartialEq, Eq)]
+#[derive(Clone, Copy)]
 pub enum WriteFault {
     /// The writer failed, or took none of the bytes that were left.
     Device,

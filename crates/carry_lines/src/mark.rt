@@ -6,7 +6,7 @@ use airline_base::Class;
 use seat_journal::{SaleChange, Work};
 
 /// A class on one leg of a flight, which is closed again.
-#[derive(Clone, Copy, Debug, PartialEq, Eq)]
+#[derive(Clone, Copy)]
 pub struct Mark {
     /// The flight's index.
     pub flight: u32,

@@ -9,7 +9,7 @@ use airline_base::{Locator, Memory};
 use std::alloc::Global;
 
 /// Why a list of locators is refused.
-#[derive(Clone, Copy, Debug, PartialEq, Eq)]
+#[derive(Clone, Copy)]
 pub enum OrderFault {
     /// The line of this number, counted from 1, is no locator.
     Line(u32),

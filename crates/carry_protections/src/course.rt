@@ -25,7 +25,7 @@ pub struct Course {
 }
 
 /// Why a row is refused.
-#[derive(Clone, Copy, Debug, PartialEq, Eq)]
+#[derive(Clone, Copy)]
 pub enum CourseKind {
     /// The line is no such row, or it names a class twice.
     Form,
@@ -43,7 +43,7 @@ pub enum CourseKind {
 }
 
 /// The first row that is refused, and why.
-#[derive(Clone, Copy, Debug, PartialEq, Eq)]
+#[derive(Clone, Copy)]
 pub struct CourseFault {
     /// The number of the line; lines count from 1.
     pub line: u32,

@@ -33,7 +33,7 @@ pub struct Carried<'a> {
 }
 
 /// What a live booking is in the new inventory.
-#[derive(Clone, Copy, Debug, PartialEq, Eq)]
+#[derive(Clone, Copy)]
 pub enum Outcome {
     Held,
     Waiting,
@@ -42,7 +42,7 @@ pub enum Outcome {
 }
 
 /// A live booking that was asked for.
-#[derive(Clone, Copy, Debug, PartialEq, Eq)]
+#[derive(Clone, Copy)]
 pub struct Asked {
     /// The line of the new journal that asked for it: its new number.
     pub line: u32,
@@ -59,7 +59,7 @@ pub struct Asked {
 }
 
 /// What became of a live booking.
-#[derive(Clone, Copy, Debug, PartialEq, Eq)]
+#[derive(Clone, Copy)]
 pub enum Fate {
     /// Its first leg departed before today.
     Departed,

@@ -7,7 +7,7 @@ use seat_desk::{put, put_number};
 use std::alloc::AllocError;
 
 /// The line of a number among the lines of several journals, one behind the other.
-#[derive(Clone, Copy, Debug, PartialEq, Eq)]
+#[derive(Clone, Copy)]
 pub struct OwnNumber {
     /// The place of its journal, counted from 1.
     pub journal: u64,

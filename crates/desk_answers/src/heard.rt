@@ -8,7 +8,7 @@ pub struct Heard {
 }
 
 /// Why a line is not answered. It counts all the same.
-#[derive(Clone, Copy, Debug, PartialEq, Eq)]
+#[derive(Clone, Copy)]
 pub enum HearFault {
     /// A growth was refused. Nothing was booked, and the host goes on.
     Memory,

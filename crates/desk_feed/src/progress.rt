@@ -7,7 +7,7 @@ ghost use Rattle.desk_feed.specs.Progress.{all_calls, kind_of, start, HasPassed,
 use seat_journal::Entry;
 
 /// What the number of a call is to its session.
-#[derive(Clone, Copy, Debug, PartialEq, Eq)]
+#[derive(Clone, Copy)]
 pub enum CallKind {
     /// It is that of the next call.
     Next,

@@ -33,7 +33,7 @@ const MOST_BYTES: usize = 256;
 const MOST_DIGITS: usize = 6;
 
 /// Why a row of the manager is refused.
-#[derive(Clone, Copy, Debug, PartialEq, Eq)]
+#[derive(Clone, Copy)]
 pub enum RowFault {
     /// It is no row.
     Malformed(LimitKind),

@@ -18,7 +18,7 @@ use std::fmt;
 const MOST_BYTES: usize = 256;
 
 /// Why a line is refused. Nothing else changes by it.
-#[derive(Clone, Copy, Debug, PartialEq, Eq)]
+#[derive(Clone, Copy)]
 pub enum Wrong {
     /// It has more than 256 bytes.
     TooLong,

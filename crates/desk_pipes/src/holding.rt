@@ -16,7 +16,7 @@ pub(crate) const PIECE: usize = 512;
 pub(crate) const MOST_AHEAD: usize = 2_097_152;
 
 /// Why nothing more is held.
-#[derive(Clone, Copy, PartialEq, Eq)]
+#[derive(Clone, Copy)]
 enum Held {
     /// The mark was read.
     Marked,

@@ -25,7 +25,7 @@ const GROUP_READS: u32 = 0o040;
 const GROUP_WRITES: u32 = 0o020;
 
 /// What a pipe is to its desk.
-#[derive(Clone, Copy, Debug, PartialEq, Eq)]
+#[derive(Clone, Copy)]
 pub enum Role {
     /// The desk's lines are read from it.
     Input,
@@ -34,7 +34,7 @@ pub enum Role {
 }
 
 /// Why a file is not one of a desk's pipes.
-#[derive(Clone, Copy, Debug, PartialEq, Eq)]
+#[derive(Clone, Copy)]
 pub enum PipeFault {
     /// There is none.
     Missing,
@@ -77,7 +77,7 @@ pub enum Unopened {
 }
 
 /// Which file a pipe is: its device, and its number there.
-#[derive(Clone, Copy, Debug, PartialEq, Eq)]
+#[derive(Clone, Copy)]
 pub struct PipeId {
     pub device: u64,
     pub number: u64,

@@ -6,7 +6,7 @@ use seat_journal::Entry;
 use seat_rules::{confirmed_seats, released_seats};
 
 /// What a host has come to.
-#[derive(Clone, Copy, Debug, PartialEq, Eq)]
+#[derive(Clone, Copy)]
 pub struct Tally {
     /// The desks that it is open to.
     pub desks: u8,

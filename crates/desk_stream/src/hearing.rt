@@ -28,7 +28,7 @@ use ssim_flights::{Flights, Served};
 use std::alloc::Global;
 
 /// Why a line of a feed is not heard.
-#[derive(Clone, Copy, Debug, PartialEq, Eq)]
+#[derive(Clone, Copy)]
 pub enum FeedFault {
     /// A growth was refused. Nothing comes of the line.
     Memory,

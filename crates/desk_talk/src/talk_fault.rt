@@ -1,6 +1,6 @@
 //! Why a talk ends ahead of its input.
 
-#[derive(Clone, Copy, Debug, PartialEq, Eq)]
+#[derive(Clone, Copy)]
 pub enum TalkFault {
     /// The desk's reader failed.
     Input,

@@ -5,7 +5,7 @@ use std::alloc::AllocError;
 use std::fmt;
 
 /// Why a line of a partner's list is refused.
-#[derive(Clone, Copy, Debug, PartialEq, Eq)]
+#[derive(Clone, Copy)]
 pub enum PartnerKind {
     /// No locator stands in its place, or no blank behind it.
     Locator,
@@ -61,7 +61,7 @@ impl From<Memory> for PartnerKind {
 }
 
 /// The first line of a partner's list that is refused, and why.
-#[derive(Clone, Copy, Debug, PartialEq, Eq)]
+#[derive(Clone, Copy)]
 pub struct PartnerFault {
     /// The number of the line; lines count from 1.
     pub line: u32,

@@ -5,7 +5,7 @@ ghost use Rattle.progress_meter.specs.Reading.{begun, ended, ends_in, feeds, gon
 ghost use Rattle.progress_meter.specs.declared.course.Told.TheVariants.{More};
 
 /// Which lines of an input are counted.
-#[derive(Clone, Copy, Debug, PartialEq, Eq)]
+#[derive(Clone, Copy)]
 pub enum Lines {
     /// None.
     Uncounted,

@@ -1,7 +1,7 @@
 //! What the line of a meter says.
 
 /// What a command does.
-#[derive(Clone, Copy, Debug, PartialEq, Eq)]
+#[derive(Clone, Copy)]
 pub enum Stage {
     /// It reads its inputs.
     Reading,
@@ -12,7 +12,7 @@ pub enum Stage {
 }
 
 /// How far a command is.
-#[derive(Clone, Copy, Debug, PartialEq, Eq)]
+#[derive(Clone, Copy)]
 pub struct Stand {
     pub stage: Stage,
     /// The bytes that were read,

@@ -7,7 +7,7 @@ use seat_nesting::{Grid, Step};
 use ssim_flights::{DatedLeg, Flights};
 
 /// What becomes of a flight.
-#[derive(Clone, Copy, Debug, PartialEq, Eq)]
+#[derive(Clone, Copy)]
 pub enum What {
     /// The new season has no flight of its name.
     Gone,

@@ -5,7 +5,7 @@ ghost use Rattle.seat_availability.specs.declared.partner_fault.PartnerKind.TheV
 use std::alloc::AllocError;
 
 /// Why a line is no threshold: the first fault from left to right.
-#[derive(Clone, Copy, Debug, PartialEq, Eq)]
+#[derive(Clone, Copy)]
 pub enum PartnerKind {
     /// The line does not begin with a class, a letter A to Z.
     Class,
@@ -25,7 +25,7 @@ impl From<AllocError> for PartnerKind {
 }
 
 /// The first line with a fault, counted from 1, and its first fault.
-#[derive(Clone, Copy, Debug, PartialEq, Eq)]
+#[derive(Clone, Copy)]
 pub struct PartnerFault {
     pub line: u32,
     pub kind: PartnerKind,

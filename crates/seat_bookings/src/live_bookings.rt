@@ -21,7 +21,7 @@ use std::marker::Model;
 const FEW: usize = 16;
 
 /// What no two live bookings have in common: the locator, place and class.
-#[derive(Clone, Copy, Debug, PartialEq, Eq, Hash)]
+#[derive(Clone, Copy, PartialEq, Eq, Hash)]
 pub struct Key {
     pub locator: [u8; 6],
     pub flight: u32,

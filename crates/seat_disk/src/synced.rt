@@ -3,7 +3,7 @@ ghost use Rattle.std.specs.Prelude.{◌≡◌, false};
 ghost use Rattle.seat_disk.specs.Syncs.{changed, kept_beside, kept_name, renamed};
 
 /// What no call has changed since its last good sync.
-#[derive(Clone, Copy, Debug, PartialEq, Eq)]
+#[derive(Clone, Copy)]
 pub struct Synced {
     /// The new file beside the name.
     pub beside: bool,

@@ -24,7 +24,7 @@ pub enum Fault {
 }
 
 /// Why bookings are not carried from a journal to another.
-#[derive(Clone, Copy, Debug, PartialEq, Eq)]
+#[derive(Clone, Copy)]
 pub enum CarryKind {
     /// A carry of the journal to another result was begun and did not end.
     Unfinished,
@@ -48,7 +48,7 @@ impl fmt::Display for CarryKind {
 }
 
 /// What is wrong with a line of a partner's list, of its thresholds, of a list of refused lines, or of the two lists of a carry.
-#[derive(Clone, Copy, Debug, PartialEq, Eq)]
+#[derive(Clone, Copy)]
 pub enum ListKind {
     /// No locator stands in its place, or no blank behind it.
     Locator,

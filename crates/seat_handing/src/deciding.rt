@@ -9,7 +9,7 @@ use crate::marking::{mark_of, may_be_marked};
 use seat_seal::{Imprint, Seal, SealEntry, Sealed, front_of, imprint_of, read_seal};
 
 /// What is done with the mark as the newer journal is written.
-#[derive(Clone, Copy, Debug, PartialEq, Eq)]
+#[derive(Clone, Copy)]
 pub enum Hand {
     /// The bookings were not carried yet: the older journal is marked.
     Mark,
@@ -20,7 +20,7 @@ pub enum Hand {
 }
 
 /// Why nothing may be written.
-#[derive(Clone, Copy, Debug, PartialEq, Eq)]
+#[derive(Clone, Copy)]
 pub enum HandRefusal {
     /// The bookings were carried to another journal, and it isn't said that this one is to take its place, or that one stands there.
     Unfinished,

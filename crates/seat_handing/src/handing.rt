@@ -28,7 +28,7 @@ use seat_seal::{SealEntry, SealText, Sealed, one_seal_text};
 use seat_sealing::seal_texts;
 
 /// Where a journal is not handed over, or it can't be said.
-#[derive(Clone, Copy, Debug, PartialEq, Eq)]
+#[derive(Clone, Copy)]
 pub enum HandFault {
     /// A file failed ahead of the newer journal's name, and the older journal's seal has again what it had, on the disk.
     TakenBack,

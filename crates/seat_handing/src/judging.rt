@@ -16,7 +16,7 @@ pub struct Judgement {
 }
 
 /// Why the bookings of several journals may not be carried to a newer one.
-#[derive(Clone, Copy, Debug, PartialEq, Eq)]
+#[derive(Clone, Copy)]
 pub enum HandsRefusal {
     /// The journal at this place, counted from 1, is the first of which nothing may be written.
     Refused { place: u32, refusal: HandRefusal },

@@ -12,7 +12,7 @@ use seat_disk::{Replaced, replace_whole};
 use std::io;
 
 /// How far a file was that was to be replaced whole, and failed.
-#[derive(Clone, Copy, PartialEq, Eq)]
+#[derive(Clone, Copy)]
 pub(crate) enum NotPut {
     /// Its name has what it had.
     Ahead,

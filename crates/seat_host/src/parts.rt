@@ -16,7 +16,7 @@ use std::marker::Model;
 use std::sync::Wait;
 
 /// Why no host was opened.
-#[derive(Clone, Copy, PartialEq, Eq)]
+#[derive(Clone, Copy)]
 pub enum HostFault {
     /// The number of sessions is not 1 to 8.
     Sessions,

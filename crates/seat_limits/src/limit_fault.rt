@@ -7,7 +7,7 @@ use std::alloc::AllocError;
 use std::fmt;
 
 /// Why a line is no limit row or no change row, or a text no ladder: the first fault from left to right.
-#[derive(Clone, Copy, Debug, PartialEq, Eq)]
+#[derive(Clone, Copy)]
 pub enum LimitKind {
     /// The line does not begin with `AU` and a blank; a change row may begin with `CLOSE` or `OPEN`.
     Head,
@@ -54,7 +54,7 @@ impl fmt::Display for LimitKind {
 }
 
 /// The first line with a fault, counted from 1, and its first fault.
-#[derive(Clone, Copy, Debug, PartialEq, Eq)]
+#[derive(Clone, Copy)]
 pub struct LimitFault {
     pub line: u32,
     pub kind: LimitKind,

@@ -13,7 +13,7 @@ use std::alloc::Global;
 use std::collections::HashMap;
 
 /// What a row and a leg have in common: the flight's name and the city pair.
-#[derive(Clone, Copy, Debug, PartialEq, Eq, Hash)]
+#[derive(Clone, Copy, PartialEq, Eq, Hash)]
 pub struct Pair {
     pub airline: Airline,
     pub number: u16,

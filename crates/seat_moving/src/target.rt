@@ -6,7 +6,7 @@ use airline_base::{Day, Place};
 use ssim_flights::{Flight, Flights, Served, Wanted};
 
 /// Where the bookings of a place go.
-#[derive(Clone, Copy, PartialEq, Eq)]
+#[derive(Clone, Copy)]
 pub enum Target {
     /// Nowhere: its first leg departed before today, by the local day there.
     Departed,

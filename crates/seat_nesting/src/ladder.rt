@@ -16,7 +16,7 @@ use std::marker::Model;
 /// A class, how many seats may be held in it and below, how many may wait in it, whether a
 /// need that finds no room is listed, and whether the class is closed: then nothing is sold, listed or
 /// confirmed in it. No class is closed in a file of limits.
-#[derive(Clone, Copy, Debug, PartialEq, Eq)]
+#[derive(Clone, Copy, PartialEq, Eq)]
 pub struct Step {
     pub class: Class,
     pub limit: u16,
@@ -38,7 +38,7 @@ impl Default for Step {
 }
 
 /// Why steps are no ladder: the first fault in this order.
-#[derive(Clone, Copy, Debug, PartialEq, Eq)]
+#[derive(Clone, Copy)]
 pub enum LadderFault {
     /// There is no step.
     Empty,

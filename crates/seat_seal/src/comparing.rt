@@ -12,7 +12,7 @@ use crate::seal::{Seal, SealEntry, Sealed, SealedJournal};
 use std::fmt;
 
 /// What is wrong with a seal.
-#[derive(Clone, Copy, Debug, PartialEq, Eq)]
+#[derive(Clone, Copy)]
 pub enum SealFault {
     /// No seal stands there, and one must.
     Missing,
@@ -69,7 +69,7 @@ fn words_of(fault: SealFault) -> &'static str
 }
 
 /// What a journal is to belong to.
-#[derive(Clone, Copy, Debug, PartialEq, Eq)]
+#[derive(Clone, Copy)]
 pub struct Given {
     pub set: Digest,
     pub limits: Digest,

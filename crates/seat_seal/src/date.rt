@@ -6,7 +6,7 @@ ghost use Rattle.seat_seal.specs.Dates.{day_in, is_of_century};
 use airline_base::Day;
 
 /// A year, a month and a day of the month.
-#[derive(Clone, Copy, Debug, PartialEq, Eq)]
+#[derive(Clone, Copy)]
 pub struct Date {
     pub year: u16,
     pub month: u8,

@@ -9,7 +9,7 @@ use sha2::{Digest as Hasher, Sha256};
 use std::marker::Model;
 
 /// The SHA-256 digest of some bytes.
-#[derive(Clone, Copy, Debug, PartialEq, Eq)]
+#[derive(Clone, Copy, PartialEq, Eq)]
 pub struct Digest {
     bytes: [u8; 32],
 }

@@ -14,7 +14,7 @@ use airline_base::Day;
 
 /// The epoch of a journal, 1 unless another is said, the day of the host that had it last, where one had it, and the journal to which its bookings were
 /// carried, where they were: from that one alone seats are sold then.
-#[derive(Clone, Copy, Debug, PartialEq, Eq)]
+#[derive(Clone, Copy)]
 pub struct Era {
     pub epoch: u32,
     pub today: Option<Date>,

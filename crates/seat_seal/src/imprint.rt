@@ -7,7 +7,7 @@ use sha2::{Digest as Hasher, Sha256};
 use std::alloc::AllocError;
 
 /// The digest of some bytes, and their count.
-#[derive(Clone, Copy, Debug, PartialEq, Eq)]
+#[derive(Clone, Copy, PartialEq, Eq)]
 pub struct Imprint {
     pub digest: Digest,
     pub bytes: u64,

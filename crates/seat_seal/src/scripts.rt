@@ -7,7 +7,7 @@ use arrayvec::ArrayVec;
 use std::marker::Model;
 
 /// A session's script, by the imprint of its bytes.
-#[derive(Clone, Copy, Debug, PartialEq, Eq)]
+#[derive(Clone, Copy)]
 pub struct Script {
     pub session: u8,
     pub imprint: Imprint,

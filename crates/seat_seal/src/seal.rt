@@ -6,14 +6,14 @@ use crate::imprint::Imprint;
 use crate::run::Runs;
 
 /// Whether more lines may come.
-#[derive(Clone, Copy, Debug, PartialEq, Eq)]
+#[derive(Clone, Copy)]
 pub enum JournalState {
     Open,
     Closed,
 }
 
 /// A journal: the imprint of its head line and its entries, without its END line, and the count of its entries.
-#[derive(Clone, Copy, Debug, PartialEq, Eq)]
+#[derive(Clone, Copy)]
 pub struct SealedJournal {
     pub imprint: Imprint,
     pub lines: u32,

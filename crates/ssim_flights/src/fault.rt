@@ -5,7 +5,7 @@ use airline_base::Memory;
 use std::fmt;
 
 /// The first fault of the first itinerary that has one.
-#[derive(Clone, Copy, Debug, PartialEq, Eq)]
+#[derive(Clone, Copy)]
 pub struct FlightFault {
     /// The serial number of the record, 0 for want of memory.
     pub serial: u32,
@@ -13,7 +13,7 @@ pub struct FlightFault {
 }
 
 /// What is wrong with an itinerary, in the order in which it is looked for.
-#[derive(Clone, Copy, Debug, PartialEq, Eq)]
+#[derive(Clone, Copy)]
 pub enum FlightKind {
     /// A number from 1 to the highest leg sequence has no record.
     MissingLeg,

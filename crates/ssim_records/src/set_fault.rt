@@ -7,7 +7,7 @@ use std::alloc::AllocError;
 use std::fmt;
 
 /// What is wrong with a record. Of several faults it is the first in this order.
-#[derive(Clone, Copy, Debug, PartialEq, Eq)]
+#[derive(Clone, Copy, PartialEq, Eq)]
 pub enum SetKind {
     /// Fewer than 200 bytes are left.
     Short,
@@ -84,7 +84,7 @@ impl From<AllocError> for SetKind {
 }
 
 /// The first record with a fault, counted from 1 with the fillers, and its first fault.
-#[derive(Clone, Copy, Debug, PartialEq, Eq)]
+#[derive(Clone, Copy)]
 pub struct SetFault {
     pub nth: u32,
     pub kind: SetKind,
