@@ -80,10 +80,10 @@ fn unstated(asked: &Open<'_, '_>) -> Result<Option<Pipes>, Refusal> {
 }
 
 /// The same where there is a manager.
-fn pipes_named(
+fn pipes_named<'a>(
     rt: &HostRuntime,
-    desks: &[&str],
-    manager: &str,
+    desks: &[&'a str],
+    manager: &'a str,
     every: Duration,
     closes_departed: bool,
 ) -> Result<Option<Pipes>, Refusal> {

@@ -21,11 +21,11 @@ const TORN_BEFORE: &str = ".torn-";
 
 /// Cuts a journal back to its right lines, ends and seals it, while it is locked. Damage is cut where that is said, and where the seal beside
 /// the journal is of this set, these limits and these days.
-pub fn recover(
-    rt: &HostRuntime,
-    over: &Horizon<'_>,
+pub fn recover<'a>(
+    rt: &'a HostRuntime,
+    over: &Horizon<'a>,
     is_said: bool,
-    journal: &str,
+    journal: &'a str,
 ) -> Result<(), Refusal> {
     let days = days_of(over.first, over.days)?;
     let mut inputs = match inputs_of(rt, over, days) {
@@ -45,10 +45,10 @@ pub fn recover(
 }
 
 /// The journal is none of the inputs, nor the file of the answer.
-pub fn pass_guard(
+pub fn pass_guard<'a>(
     rt: &HostRuntime,
-    inputs: &Inputs<Input<'_>, Input<'_>>,
-    journal: &str,
+    inputs: &Inputs<Input<'a>, Input<'a>>,
+    journal: &'a str,
 ) -> Result<(), Refusal> {
     let guard = Guard::new(rt, journal)?;
     guard.pass(inputs, &[], &[])?;
@@ -157,13 +157,13 @@ pub fn tell_kept(rt: &HostRuntime, journal: &str, beside: &BesideFile<'_>) {
 }
 
 /// The fault, of the file that it is of.
-fn refused(
+fn refused<'a>(
     fault: DeskFault,
-    inputs: &Inputs<Input<'_>, Input<'_>>,
-    journal: &str,
+    inputs: &Inputs<Input<'a>, Input<'a>>,
+    journal: &'a str,
     tape: &TapeFile,
     beside: &BesideFile<'_>,
-    out: &Output<'_>,
+    out: &Output<'a>,
 ) -> Refusal
     // A file beside the journal that wants memory is told as that.
     ensures { (result.fault ≡ Fault.Desk fault)

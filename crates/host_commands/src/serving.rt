@@ -71,10 +71,10 @@ pub struct Open<'a, 'b> {
 
 /// Goes on with a journal beside its seal, or begins it, answers a desk up to the end of its input, or desks up to the manager's end, and
 /// ends and seals the journal.
-pub fn serve<R: Threads + Wait + Clock + Copy + Send + 'static>(
-    rt: &HostRuntime,
+pub fn serve<'a, R: Threads + Wait + Clock + Copy + Send + 'static>(
+    rt: &'a HostRuntime,
     waits: &R,
-    job: &ServeJob<'_>,
+    job: &ServeJob<'a>,
 ) -> Result<(), Refusal> {
     let _error = standard_error_held(rt);
     let asked = asked_by(job);
@@ -152,14 +152,14 @@ fn inputs_passed<'a>(
 }
 
 /// The same with the inputs read and the journal locked.
-fn serve_locked<R: Threads + Wait + Clock + Copy + Send + 'static>(
-    rt: &HostRuntime,
+fn serve_locked<'a, R: Threads + Wait + Clock + Copy + Send + 'static>(
+    rt: &'a HostRuntime,
     waits: &R,
-    inputs: &Inputs<Input<'_>, Input<'_>>,
+    inputs: &Inputs<Input<'a>, Input<'a>>,
     based: Based,
     said: Option<Day>,
     clients: Clients<Fed>,
-    journal: &str,
+    journal: &'a str,
     tape: TapeFile,
 ) -> Result<(), Refusal>
     requires grid { IsGridOf based.loaded.flights based.loaded.grid }

@@ -21,12 +21,12 @@ pub enum Unserved {
 }
 
 /// The refusal that it is.
-pub fn refusal_of(
+pub fn refusal_of<'a>(
     fault: Unserved,
-    journal: &str,
+    journal: &'a str,
     tape: TapeFile,
-    input: &Input<'_>,
-    out: &Output<'_>,
+    input: &Input<'a>,
+    out: &Output<'a>,
 ) -> Refusal {
     match fault {
         Unserved::Desk(fault) => untalked(fault, journal, tape, input, out),
@@ -74,12 +74,12 @@ fn unended(fault: HostedFault, journal: &str, tape: &TapeFile) -> Refusal {
 }
 
 /// Why the journal of a desk on standard input is not ended and sealed.
-fn untalked(
+fn untalked<'a>(
     fault: ServedFault,
-    journal: &str,
+    journal: &'a str,
     tape: TapeFile,
-    input: &Input<'_>,
-    out: &Output<'_>,
+    input: &Input<'a>,
+    out: &Output<'a>,
 ) -> Refusal {
     match fault {
         ServedFault::Day(DayFault::Talk(TalkFault::Input)) => Refusal::unread(input),
@@ -98,7 +98,7 @@ fn untalked(
 }
 
 /// Why the journal of a feed is not ended and sealed.
-fn unfed(fault: FedFault, journal: &str, tape: &TapeFile, out: &Output<'_>) -> Refusal {
+fn unfed<'a>(fault: FedFault, journal: &'a str, tape: &TapeFile, out: &Output<'a>) -> Refusal {
     match fault {
         FedFault::Behind => Refusal::from(WordFault::BadBehind),
         FedFault::Broken(StreamFault::Strange(line, number)) => {

@@ -30,13 +30,13 @@ use std::thread::Threads;
 
 /// Carries the live bookings of a journal over the one season to the other, and writes the report. Where a leg has too few seats nothing is carried: the
 /// lines of such legs are written, and the answer says that there are any. The journal is locked from its reading to the end.
-pub fn carry<R: Threads + Sync>(
-    rt: &HostRuntime,
+pub fn carry<'a, R: Threads + Sync>(
+    rt: &'a HostRuntime,
     threads: &R,
-    meter: &Meter,
-    asked: &CarryJob<'_>,
-    from: &Horizon<'_>,
-    to: &Horizon<'_>,
+    meter: &'a Meter,
+    asked: &CarryJob<'a>,
+    from: &Horizon<'a>,
+    to: &Horizon<'a>,
 ) -> Result<bool, Refusal> {
     let from_days = days_of(from.first, from.days)?;
     let to_days = days_of(to.first, to.days)?;

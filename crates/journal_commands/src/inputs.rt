@@ -79,11 +79,11 @@ pub(crate) fn made<'a, R: Threads + Sync>(
 }
 
 /// Why nothing is carried, of the file that it is of; or the lines of the legs that have too few seats.
-pub(crate) fn unmade(
+pub(crate) fn unmade<'a>(
     fault: CarryFault,
-    seasons: &Seasons<'_>,
-    journal: &Input<'_>,
-    asked: &CarryJob<'_>,
+    seasons: &Seasons<'a>,
+    journal: &Input<'a>,
+    asked: &CarryJob<'a>,
 ) -> Result<Items<u8>, Refusal> {
     match fault {
         CarryFault::Over(lines) => Ok(lines),
@@ -98,7 +98,7 @@ pub(crate) fn unmade(
     }
 }
 
-fn of_season(fault: SeasonFault, seasons: &Seasons<'_>, journal: &Input<'_>) -> Refusal {
+fn of_season<'a>(fault: SeasonFault, seasons: &Seasons<'a>, journal: &Input<'a>) -> Refusal {
     Refusal::from(fault.shown())
         .noting_all(&[&seasons.to.set, &seasons.to.limits])
         .noting_all(&[&seasons.from.set, &seasons.from.limits])
@@ -106,11 +106,11 @@ fn of_season(fault: SeasonFault, seasons: &Seasons<'_>, journal: &Input<'_>) -> 
 }
 
 /// The same of several journals.
-pub(crate) fn unmade_of(
+pub(crate) fn unmade_of<'a>(
     fault: CarryFault,
-    seasons: &Seasons<'_>,
-    journals: &[Input<'_>],
-    asked: &CarryJob<'_>,
+    seasons: &Seasons<'a>,
+    journals: &[Input<'a>],
+    asked: &CarryJob<'a>,
 ) -> Result<Items<u8>, Refusal> {
     match fault {
         CarryFault::Over(lines) => Ok(lines),

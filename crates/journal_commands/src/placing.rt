@@ -155,7 +155,7 @@ pub(crate) fn standing(newer: &Newer<'_>) -> Result<(Vec<u8>, Option<Vec<u8>>), 
 }
 
 /// Whose failure it was.
-pub(crate) fn failed(older: &Older<'_>, newer: &Newer<'_>) -> Refusal {
+pub(crate) fn failed<'a>(older: &Older<'a>, newer: &Newer<'a>) -> Refusal {
     Refusal::from(DeskFault::Device)
         .noting_journal(&newer.journal)
         .noting_seal(&newer.seal)

@@ -32,11 +32,11 @@ use std::thread::Threads;
 /// OUT, the file of the journal, is looked at, locked and made where it is not there, once each input is open and before the first is
 /// read. Without an older journal the run goes on from no line, and without a file of changes there are none. Without changes it needs
 /// a script. How many lines a journal began with is asked only where the run goes on with its scripts.
-pub fn run<T: Threads + Wait + Sync>(
-    rt: &HostRuntime,
+pub fn run<'a, T: Threads + Wait + Sync>(
+    rt: &'a HostRuntime,
     threads: &T,
-    meter: &Meter,
-    asking: &RunJob<'_>,
+    meter: &'a Meter,
+    asking: &RunJob<'a>,
 ) -> Result<(), Refusal> {
     let over = &asking.over;
     let days = days_of(over.first, over.days)?;
@@ -309,7 +309,11 @@ struct Sale<'a, 'b> {
 }
 
 /// What the command came to, of whichever input it is refused for.
-fn sold(outcome: Result<(), DeskFault>, texts: &Texts<'_>, past: &Past<'_>) -> Result<(), Refusal> {
+fn sold<'a>(
+    outcome: Result<(), DeskFault>,
+    texts: &Texts<'a>,
+    past: &Past<'a>,
+) -> Result<(), Refusal> {
     let inputs = &texts.inputs;
     let ahead = told(
         outcome,
@@ -320,13 +324,13 @@ fn sold(outcome: Result<(), DeskFault>, texts: &Texts<'_>, past: &Past<'_>) -> R
 }
 
 /// Says what may not be meant so, of a run that booked all.
-fn tell_sold(
+fn tell_sold<'a>(
     rt: &HostRuntime,
-    sale: &Sale<'_, '_>,
-    texts: &Texts<'_>,
+    sale: &Sale<'a, '_>,
+    texts: &Texts<'a>,
     seals: &Seals,
-    place: &Place<'_>,
-    out: &Heard<'_>,
+    place: &Place<'a>,
+    out: &Heard<'a>,
 ) {
     let mut has_refused = false;
     if let Some(list) = place.journal.list() {
@@ -609,7 +613,7 @@ fn is_regular(input: &Input<'_>) -> Result<bool, Refusal> {
 }
 
 /// Whether the older journal is the very file that the new one is put into.
-fn is_gone_on_from(after: &Input<'_>, journal: &JournalFile<'_>) -> Result<bool, Refusal> {
+fn is_gone_on_from<'a>(after: &Input<'a>, journal: &JournalFile<'a>) -> Result<bool, Refusal> {
     let Some(out) = journal.metadata()? else {
         return Ok(false);
     };

@@ -596,7 +596,7 @@ fn hand_or_finish(hand: Option<Hand>) -> Hand
 }
 
 /// Why nothing may be written, of the journal of this name or of the new one.
-fn refused(refusal: HandRefusal, older: &str, new: &str) -> Refusal
+fn refused<'a>(refusal: HandRefusal, older: &'a str, new: &'a str) -> Refusal
     ensures { result.fault ≡ OfCarry (carry_kind refusal) }
 {
     match refusal {
@@ -680,7 +680,7 @@ fn put_together<'a>(
 }
 
 /// Whose failure it was.
-fn failed_together(olders: &Olders<'_>, newer: &Newer<'_>) -> Refusal {
+fn failed_together<'a>(olders: &Olders<'a>, newer: &Newer<'a>) -> Refusal {
     let mut refusal = Refusal::from(DeskFault::Device)
         .noting_journal(&newer.journal)
         .noting_seal(&newer.seal);
@@ -691,11 +691,11 @@ fn failed_together(olders: &Olders<'_>, newer: &Newer<'_>) -> Refusal {
 }
 
 /// Why nothing is carried, of the file that it is of; or the lines of the legs that have too few seats.
-fn unjoined(
+fn unjoined<'a>(
     fault: JoinFault,
-    seasons: &Seasons<'_>,
-    journals: &[Input<'_>],
-    asked: &CarryJob<'_>,
+    seasons: &Seasons<'a>,
+    journals: &[Input<'a>],
+    asked: &CarryJob<'a>,
 ) -> Result<Items<u8>, Refusal> {
     match fault {
         JoinFault::Carry(fault) => unmade_of(fault, seasons, journals, asked),

@@ -22,11 +22,11 @@ const MOST_PARTNER_BYTES: u64 = 65_536;
 
 /// What a partner is told of each segment, or of what changed behind the lines of an older journal. The partner's thresholds are read first, and then
 /// the older journal.
-pub fn avs<R: Threads + Sync>(
+pub fn avs<'a, R: Threads + Sync>(
     rt: &HostRuntime,
     threads: &R,
-    meter: &Meter,
-    asked: &AvsJob<'_>,
+    meter: &'a Meter,
+    asked: &AvsJob<'a>,
 ) -> Result<(), Refusal> {
     let over = &asked.horizon;
     let days = days_of(over.first, over.days)?;
@@ -65,14 +65,14 @@ pub fn avs<R: Threads + Sync>(
 }
 
 /// What changed behind the lines of an older journal.
-fn avs_since<R: Threads + Sync>(
+fn avs_since<'a, R: Threads + Sync>(
     rt: &HostRuntime,
     threads: &R,
-    meter: &Meter,
-    asked: &AvsJob<'_>,
+    meter: &'a Meter,
+    asked: &AvsJob<'a>,
     days: (Day, u16),
     wanted: &Asked<'_>,
-    older: &str,
+    older: &'a str,
 ) -> Result<(), Refusal>
     requires first { IsOfCentury days.0 }
     requires days { (1 ≤ days.1) × (days.1 ≤ 366) }

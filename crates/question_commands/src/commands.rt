@@ -26,7 +26,7 @@ pub fn ladder(rt: &HostRuntime) -> Result<(), Refusal> {
     told(outcome, &[&input], &[&out])
 }
 
-pub fn check(rt: &HostRuntime, meter: &Meter, set: &str) -> Result<(), Refusal> {
+pub fn check<'a>(rt: &HostRuntime, meter: &'a Meter, set: &'a str) -> Result<(), Refusal> {
     let mut set = taken(rt, set)?;
     meter_input(rt, meter, &mut set, Lines::Uncounted);
     let mut out = metered_output(rt, meter);
@@ -43,11 +43,11 @@ pub fn season(rt: &HostRuntime, set: &str, limits: &str) -> Result<(), Refusal> 
 }
 
 /// What a desk is told of a journal, of its first line or a later one on.
-pub fn told_of<R: Threads + Sync>(
+pub fn told_of<'a, R: Threads + Sync>(
     rt: &HostRuntime,
     threads: &R,
-    meter: &Meter,
-    asked: &ToldJob<'_>,
+    meter: &'a Meter,
+    asked: &ToldJob<'a>,
 ) -> Result<(), Refusal> {
     let over = &asked.over;
     let days = days_of(over.first, over.days)?;
@@ -68,14 +68,14 @@ pub fn told_of<R: Threads + Sync>(
     )
 }
 
-pub fn why<R: Threads + Sync>(
+pub fn why<'a, R: Threads + Sync>(
     rt: &HostRuntime,
     threads: &R,
-    meter: &Meter,
-    over: &Horizon<'_>,
+    meter: &'a Meter,
+    over: &Horizon<'a>,
     line: &str,
     is_open: bool,
-    journal: &str,
+    journal: &'a str,
 ) -> Result<(), Refusal> {
     let days = days_of(over.first, over.days)?;
     let Some(line) = line_word(line) else {
@@ -105,13 +105,13 @@ pub struct Looked {
 }
 
 /// The journal alone, without scripts. A long one takes all processors.
-pub fn audit<R: Threads + Sync>(
+pub fn audit<'a, R: Threads + Sync>(
     rt: &HostRuntime,
     threads: &R,
-    meter: &Meter,
-    over: &Horizon<'_>,
+    meter: &'a Meter,
+    over: &Horizon<'a>,
     days: (Day, u16),
-    journal: &str,
+    journal: &'a str,
     looked: Looked,
 ) -> Result<(), Refusal>
     requires first { IsOfCentury days.0 }
@@ -143,13 +143,13 @@ pub fn audit<R: Threads + Sync>(
     }
 }
 
-fn audited_once<R: Threads + Sync>(
+fn audited_once<'a, R: Threads + Sync>(
     rt: &HostRuntime,
     threads: &R,
-    meter: &Meter,
-    over: &Horizon<'_>,
+    meter: &'a Meter,
+    over: &Horizon<'a>,
     days: &(Day, u16),
-    journal: &str,
+    journal: &'a str,
     looked: Looked,
 ) -> Result<Answer, Refusal>
     requires first { IsOfCentury days.now.0 }
@@ -210,12 +210,12 @@ fn texts_opened<'a>(
 }
 
 /// What a question came to over these. A seal that denies an open journal, or one that was replaced since it was opened, may be another's.
-fn answer_of(
+fn answer_of<'a>(
     rt: &HostRuntime,
-    inputs: &Inputs<Input<'_>, Input<'_>>,
-    journal: &Input<'_>,
+    inputs: &Inputs<Input<'a>, Input<'a>>,
+    journal: &Input<'a>,
     outcome: Result<(), DeskFault>,
-    out: &Output<'_>,
+    out: &Output<'a>,
     looked: Looked,
 ) -> Answer {
     match told(outcome, &[&inputs.set, &inputs.limits, journal], &[out]) {
@@ -236,12 +236,12 @@ fn answer_of(
 
 /// Writes the seal of a journal that an audit accepts, while the journal is locked. It keeps the runs of a seal that agrees, and tells of a
 /// seal of other bytes that it took the place of.
-pub fn seal<R: Threads + Sync>(
-    rt: &HostRuntime,
+pub fn seal<'a, R: Threads + Sync>(
+    rt: &'a HostRuntime,
     threads: &R,
-    meter: &Meter,
-    over: &Horizon<'_>,
-    journal: &str,
+    meter: &'a Meter,
+    over: &Horizon<'a>,
+    journal: &'a str,
 ) -> Result<(), Refusal> {
     let days = days_of(over.first, over.days)?;
     let mut inputs = match inputs_of(rt, over, days) {
@@ -279,14 +279,14 @@ pub fn seal<R: Threads + Sync>(
 }
 
 /// The answer to a question about a journal that may be open.
-pub fn asked_of<R: Threads + Sync, Q: Question>(
+pub fn asked_of<'a, R: Threads + Sync, Q: Question>(
     rt: &HostRuntime,
     threads: &R,
-    meter: &Meter,
-    over: &Horizon<'_>,
+    meter: &'a Meter,
+    over: &Horizon<'a>,
     days: (Day, u16),
     question: &Q,
-    journal: Option<&str>,
+    journal: Option<&'a str>,
     is_open: bool,
 ) -> Result<(), Refusal>
     requires first { IsOfCentury days.0 }
@@ -301,14 +301,14 @@ pub fn asked_of<R: Threads + Sync, Q: Question>(
 }
 
 /// The same of a question whose answer is a page, which is refused where it is too long.
-pub fn page_of<R: Threads + Sync, Q: Question>(
+pub fn page_of<'a, R: Threads + Sync, Q: Question>(
     rt: &HostRuntime,
     threads: &R,
-    meter: &Meter,
-    over: &Horizon<'_>,
+    meter: &'a Meter,
+    over: &Horizon<'a>,
     days: (Day, u16),
     question: &Q,
-    journal: Option<&str>,
+    journal: Option<&'a str>,
     is_open: bool,
 ) -> Result<(), Refusal>
     requires first { IsOfCentury days.0 }
@@ -322,14 +322,14 @@ pub fn page_of<R: Threads + Sync, Q: Question>(
     looked_at(rt, threads, meter, over, days, question, journal, looked)
 }
 
-fn looked_at<R: Threads + Sync, Q: Question>(
+fn looked_at<'a, R: Threads + Sync, Q: Question>(
     rt: &HostRuntime,
     threads: &R,
-    meter: &Meter,
-    over: &Horizon<'_>,
+    meter: &'a Meter,
+    over: &Horizon<'a>,
     days: (Day, u16),
     question: &Q,
-    journal: Option<&str>,
+    journal: Option<&'a str>,
     looked: Looked,
 ) -> Result<(), Refusal>
     requires first { IsOfCentury days.0 }
@@ -353,14 +353,14 @@ fn looked_at<R: Threads + Sync, Q: Question>(
 /// The answer to a question about a journal, or about one without lines, with what stands beside it. A journal that a run has replaced
 /// meanwhile is read once more, with its seal, and so is an open one that the seal denies, to which the first line may just have been added: nothing is
 /// written of one that is refused.
-fn answered<R: Threads + Sync, Q: Question>(
+fn answered<'a, R: Threads + Sync, Q: Question>(
     rt: &HostRuntime,
     threads: &R,
-    meter: &Meter,
-    over: &Horizon<'_>,
+    meter: &'a Meter,
+    over: &Horizon<'a>,
     days: (Day, u16),
     question: &Q,
-    journal: Option<&str>,
+    journal: Option<&'a str>,
     looked: Looked,
 ) -> Result<(), Refusal>
     requires first { IsOfCentury days.0 }
@@ -387,14 +387,14 @@ struct Answer {
     is_moved: bool,
 }
 
-fn answered_once<R: Threads + Sync, Q: Question>(
+fn answered_once<'a, R: Threads + Sync, Q: Question>(
     rt: &HostRuntime,
     threads: &R,
-    meter: &Meter,
-    over: &Horizon<'_>,
+    meter: &'a Meter,
+    over: &Horizon<'a>,
     days: &(Day, u16),
     question: &Q,
-    journal: Option<&str>,
+    journal: Option<&'a str>,
     looked: Looked,
 ) -> Result<Answer, Refusal>
     requires first { IsOfCentury days.now.0 }

@@ -14,13 +14,13 @@ use std::thread::Threads;
 
 /// What a new season makes of the flights of an old one, with the seats of a journal over the old one, if one is named. A journal that a run
 /// has replaced meanwhile is read once more, with its seal and both seasons.
-pub fn compare<R: Threads + Sync>(
+pub fn compare<'a, R: Threads + Sync>(
     rt: &HostRuntime,
     threads: &R,
-    meter: &Meter,
-    from: &Horizon<'_>,
-    to: &Horizon<'_>,
-    journal: Option<&str>,
+    meter: &'a Meter,
+    from: &Horizon<'a>,
+    to: &Horizon<'a>,
+    journal: Option<&'a str>,
 ) -> Result<(), Refusal> {
     let from_days = days_of(from.first, from.days)?;
     let to_days = days_of(to.first, to.days)?;
@@ -45,15 +45,15 @@ struct Attempt {
     is_moved: bool,
 }
 
-fn compared_once<R: Threads + Sync>(
+fn compared_once<'a, R: Threads + Sync>(
     rt: &HostRuntime,
     threads: &R,
-    meter: &Meter,
-    from: &Horizon<'_>,
+    meter: &'a Meter,
+    from: &Horizon<'a>,
     from_days: &(Day, u16),
-    to: &Horizon<'_>,
+    to: &Horizon<'a>,
     to_days: &(Day, u16),
-    journal: Option<&str>,
+    journal: Option<&'a str>,
 ) -> Result<Attempt, Refusal>
     requires from_first { IsOfCentury from_days.now.0 }
     requires from_days { (1 ≤ from_days.now.1) × (from_days.now.1 ≤ 366) }
@@ -119,13 +119,13 @@ fn compared<'a, R: Threads + Sync>(
 }
 
 /// What it came to, of the file that its fault is of: in the order in which they are read.
-fn attempt_of(
+fn attempt_of<'a>(
     rt: &HostRuntime,
     outcome: Result<(), SeasonFault>,
-    to: &Inputs<Input<'_>, Input<'_>>,
-    from: &Inputs<Input<'_>, Input<'_>>,
-    journal: &Input<'_>,
-    out: &Output<'_>,
+    to: &Inputs<Input<'a>, Input<'a>>,
+    from: &Inputs<Input<'a>, Input<'a>>,
+    journal: &Input<'a>,
+    out: &Output<'a>,
 ) -> Attempt {
     match outcome {
         Ok(()) => Attempt {

@@ -34,10 +34,10 @@ use table_questions::{
 };
 
 /// The dated flights of a data set.
-pub fn flights(
+pub fn flights<'a>(
     rt: &HostRuntime,
-    meter: &Meter,
-    set: &str,
+    meter: &'a Meter,
+    set: &'a str,
     first: &str,
     days: &str,
     shape: Shape,
@@ -69,11 +69,11 @@ fn flights_put(
 }
 
 /// The rows that are for no leg or hidden, and the legs without one.
-pub fn cover<R: Threads + Sync>(
+pub fn cover<'a, R: Threads + Sync>(
     rt: &HostRuntime,
     threads: &R,
-    meter: &Meter,
-    asked: &CoverJob<'_>,
+    meter: &'a Meter,
+    asked: &CoverJob<'a>,
 ) -> Result<(), Refusal> {
     let over = &asked.over;
     let days = days_of(over.first, over.days)?;
@@ -89,11 +89,11 @@ pub fn cover<R: Threads + Sync>(
 
 /// The rooms of the places that `--day` and `--pair` keep, with bars where they are asked for. Without a journal they are those
 /// after no line.
-pub fn rooms<R: Threads + Sync>(
+pub fn rooms<'a, R: Threads + Sync>(
     rt: &HostRuntime,
     threads: &R,
-    meter: &Meter,
-    asked: &RoomsJob<'_>,
+    meter: &'a Meter,
+    asked: &RoomsJob<'a>,
 ) -> Result<(), Refusal> {
     let over = &asked.over;
     let days = days_of(over.first, over.days)?;
@@ -124,11 +124,11 @@ pub fn rooms<R: Threads + Sync>(
 
 /// How full the legs are that `--flight`, `--day` and `--pair` keep, with bars where they are asked for, as a page, or the sums that `--by` names. Without a journal that is before the first booking.
 /// With `--shards` it is after the lines of all the journals.
-pub fn loads<R: Threads + Sync>(
+pub fn loads<'a, R: Threads + Sync>(
     rt: &HostRuntime,
     threads: &R,
-    meter: &Meter,
-    asked: &LoadsJob<'_>,
+    meter: &'a Meter,
+    asked: &LoadsJob<'a>,
 ) -> Result<(), Refusal> {
     let over = &asked.over;
     let days = days_of(over.first, over.days)?;
@@ -194,14 +194,14 @@ fn journals_asked<'a, 'b>(
 }
 
 /// The answer to a question about these.
-fn put<R: Threads + Sync, Q: Question>(
+fn put<'a, R: Threads + Sync, Q: Question>(
     rt: &HostRuntime,
     threads: &R,
-    meter: &Meter,
-    over: &Horizon<'_>,
+    meter: &'a Meter,
+    over: &Horizon<'a>,
     days: (Day, u16),
     question: &Q,
-    journals: Journals<'_, '_>,
+    journals: Journals<'a, '_>,
 ) -> Result<(), Refusal>
     requires first { IsOfCentury days.0 }
     requires days { (1 ≤ days.1) × (days.1 ≤ 366) }
@@ -217,14 +217,14 @@ fn put<R: Threads + Sync, Q: Question>(
 }
 
 /// The same of a question whose answer is a page.
-fn paged<R: Threads + Sync, Q: Question>(
+fn paged<'a, R: Threads + Sync, Q: Question>(
     rt: &HostRuntime,
     threads: &R,
-    meter: &Meter,
-    over: &Horizon<'_>,
+    meter: &'a Meter,
+    over: &Horizon<'a>,
     days: (Day, u16),
     question: &Q,
-    journals: Journals<'_, '_>,
+    journals: Journals<'a, '_>,
 ) -> Result<(), Refusal>
     requires first { IsOfCentury days.0 }
     requires days { (1 ≤ days.1) × (days.1 ≤ 366) }
@@ -240,15 +240,15 @@ fn paged<R: Threads + Sync, Q: Question>(
 }
 
 /// The loads, as text or in a form.
-fn loaded<R: Threads + Sync>(
+fn loaded<'a, R: Threads + Sync>(
     rt: &HostRuntime,
     threads: &R,
-    meter: &Meter,
-    over: &Horizon<'_>,
+    meter: &'a Meter,
+    over: &Horizon<'a>,
     days: (Day, u16),
     loads: LoadsOf,
     form: Option<Form>,
-    journals: Journals<'_, '_>,
+    journals: Journals<'a, '_>,
 ) -> Result<(), Refusal>
     requires first { IsOfCentury days.0 }
     requires days { (1 ≤ days.1) × (days.1 ≤ 366) }
@@ -263,16 +263,16 @@ fn loaded<R: Threads + Sync>(
 }
 
 /// Their sums.
-fn summed<R: Threads + Sync>(
+fn summed<'a, R: Threads + Sync>(
     rt: &HostRuntime,
     threads: &R,
-    meter: &Meter,
-    over: &Horizon<'_>,
+    meter: &'a Meter,
+    over: &Horizon<'a>,
     days: (Day, u16),
     loads: LoadsOf,
     by: By,
     form: Form,
-    journals: Journals<'_, '_>,
+    journals: Journals<'a, '_>,
 ) -> Result<(), Refusal>
     requires first { IsOfCentury days.0 }
     requires days { (1 ≤ days.1) × (days.1 ≤ 366) }
@@ -302,11 +302,11 @@ fn summed<R: Threads + Sync>(
 }
 
 /// The live bookings of the locators, the flights and the day that are asked for.
-pub fn bookings<R: Threads + Sync>(
+pub fn bookings<'a, R: Threads + Sync>(
     rt: &HostRuntime,
     threads: &R,
-    meter: &Meter,
-    asked: &BookingsJob<'_>,
+    meter: &'a Meter,
+    asked: &BookingsJob<'a>,
 ) -> Result<(), Refusal> {
     let over = &asked.over;
     let days = days_of(over.first, over.days)?;
@@ -338,11 +338,11 @@ pub fn bookings<R: Threads + Sync>(
 }
 
 /// Who waits, on the flights and the day that are asked for; with `--shards` of all the journals.
-pub fn waiting<R: Threads + Sync>(
+pub fn waiting<'a, R: Threads + Sync>(
     rt: &HostRuntime,
     threads: &R,
-    meter: &Meter,
-    asked: &WaitingJob<'_>,
+    meter: &'a Meter,
+    asked: &WaitingJob<'a>,
 ) -> Result<(), Refusal> {
     let over = &asked.over;
     let days = days_of(over.first, over.days)?;
@@ -371,11 +371,11 @@ pub fn waiting<R: Threads + Sync>(
 }
 
 /// What was held, sold, cancelled and confirmed behind the lines of an older journal, which is opened first, or behind so many.
-pub fn pickup<R: Threads + Sync>(
+pub fn pickup<'a, R: Threads + Sync>(
     rt: &HostRuntime,
     threads: &R,
-    meter: &Meter,
-    asked: &PickupJob<'_>,
+    meter: &'a Meter,
+    asked: &PickupJob<'a>,
 ) -> Result<(), Refusal> {
     let over = &asked.over;
     let days = days_of(over.first, over.days)?;
@@ -408,14 +408,14 @@ pub fn pickup<R: Threads + Sync>(
 }
 
 /// The same question behind the lines of an older journal.
-fn pickup_since<R: Threads + Sync>(
+fn pickup_since<'a, R: Threads + Sync>(
     rt: &HostRuntime,
     threads: &R,
-    meter: &Meter,
-    asked: &PickupJob<'_>,
+    meter: &'a Meter,
+    asked: &PickupJob<'a>,
     days: (Day, u16),
     question: &PickupOf<'_>,
-    older: &str,
+    older: &'a str,
 ) -> Result<(), Refusal>
     requires first { IsOfCentury days.0 }
     requires days { (1 ≤ days.1) × (days.1 ≤ 366) }
@@ -457,11 +457,11 @@ fn pickup_by(by: Option<&str>) -> Result<PickupBy, WordFault> {
 }
 
 /// What the lines of a journal did for a locator, or on a flight, on the days that are asked for.
-pub fn history<R: Threads + Sync>(
+pub fn history<'a, R: Threads + Sync>(
     rt: &HostRuntime,
     threads: &R,
-    meter: &Meter,
-    asked: &HistoryJob<'_>,
+    meter: &'a Meter,
+    asked: &HistoryJob<'a>,
 ) -> Result<(), Refusal> {
     let over = &asked.over;
     let days = days_of(over.first, over.days)?;
@@ -502,15 +502,15 @@ fn locators_of(alloc: Global, words: &[&str]) -> Result<Vec<Locator>, Refusal> {
 }
 
 /// The answer to a question as a table.
-fn tabled<R: Threads + Sync, T: Table>(
+fn tabled<'a, R: Threads + Sync, T: Table>(
     rt: &HostRuntime,
     threads: &R,
-    meter: &Meter,
-    over: &Horizon<'_>,
+    meter: &'a Meter,
+    over: &Horizon<'a>,
     days: (Day, u16),
     table: &T,
     form: Form,
-    journals: Journals<'_, '_>,
+    journals: Journals<'a, '_>,
 ) -> Result<(), Refusal>
     requires first { IsOfCentury days.0 }
     requires days { (1 ≤ days.1) × (days.1 ≤ 366) }

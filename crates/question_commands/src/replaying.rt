@@ -26,11 +26,11 @@ use seat_words::{
 use std::thread::Threads;
 
 /// Without a script the journal is looked at alone. Scripts need the day of the run, and it needs scripts, as older lines do.
-pub fn audit<R: Threads + Sync>(
+pub fn audit<'a, R: Threads + Sync>(
     rt: &HostRuntime,
     threads: &R,
-    meter: &Meter,
-    asked: &AuditJob<'_>,
+    meter: &'a Meter,
+    asked: &AuditJob<'a>,
 ) -> Result<(), Refusal> {
     let over = &asked.over;
     let days = days_of(over.first, over.days)?;
@@ -89,13 +89,13 @@ struct Attempt {
 }
 
 /// A journal that a run has replaced meanwhile is read once more, with all else: nothing is written where a seal denies it.
-fn audit_against<R: Threads + Sync>(
+fn audit_against<'a, R: Threads + Sync>(
     rt: &HostRuntime,
     threads: &R,
-    meter: &Meter,
-    over: &Horizon<'_>,
+    meter: &'a Meter,
+    over: &Horizon<'a>,
     days: (Day, u16),
-    replayed: &Replayed<'_, '_>,
+    replayed: &Replayed<'a, '_>,
 ) -> Result<(), Refusal>
     requires first { IsOfCentury days.0 }
     requires days { (1 ≤ days.1) × (days.1 ≤ 366) }
@@ -115,13 +115,13 @@ fn audit_against<R: Threads + Sync>(
     }
 }
 
-fn audited_once<R: Threads + Sync>(
+fn audited_once<'a, R: Threads + Sync>(
     rt: &HostRuntime,
     threads: &R,
-    meter: &Meter,
-    over: &Horizon<'_>,
+    meter: &'a Meter,
+    over: &Horizon<'a>,
     days: &(Day, u16),
-    replayed: &Replayed<'_, '_>,
+    replayed: &Replayed<'a, '_>,
 ) -> Result<Attempt, Refusal>
     requires first { IsOfCentury days.now.0 }
     requires days { (1 ≤ days.now.1) × (days.now.1 ≤ 366) }
@@ -236,11 +236,11 @@ fn journals_opened<'a>(
 }
 
 /// What a command over these files came to.
-fn attempt_of(
+fn attempt_of<'a>(
     rt: &HostRuntime,
-    files: &Files<'_>,
+    files: &Files<'a>,
     outcome: Result<(), DeskFault>,
-    out: &Output<'_>,
+    out: &Output<'a>,
 ) -> Attempt {
     let inputs = &files.inputs;
     let ahead = told(
@@ -278,11 +278,11 @@ fn wanted_of(asked: &RepliesJob<'_>) -> Result<Wanted, WordFault> {
 }
 
 /// A run without a script had changes alone.
-pub fn replies<R: Threads + Sync>(
+pub fn replies<'a, R: Threads + Sync>(
     rt: &HostRuntime,
     threads: &R,
-    meter: &Meter,
-    asked: &RepliesJob<'_>,
+    meter: &'a Meter,
+    asked: &RepliesJob<'a>,
 ) -> Result<(), Refusal> {
     let over = &asked.over;
     let days = days_of(over.first, over.days)?;
@@ -313,13 +313,13 @@ pub fn replies<R: Threads + Sync>(
     }
 }
 
-fn replied_once<R: Threads + Sync>(
+fn replied_once<'a, R: Threads + Sync>(
     rt: &HostRuntime,
     threads: &R,
-    meter: &Meter,
-    over: &Horizon<'_>,
+    meter: &'a Meter,
+    over: &Horizon<'a>,
     days: &(Day, u16),
-    replayed: &Replayed<'_, '_>,
+    replayed: &Replayed<'a, '_>,
     wanted: Wanted,
     form: Option<Form>,
 ) -> Result<Attempt, Refusal>

@@ -10,7 +10,7 @@ use seat_files::{Input, Output, Refusal, metered_output, opened_or, told};
 use seat_words::{RouteJob, WordFault, sessions_of_run, shards_word};
 
 /// Where the rows of the file of changes go, if one is named, and behind them the lines of each session's script.
-pub fn route(rt: &HostRuntime, meter: &Meter, asked: &RouteJob<'_>) -> Result<(), Refusal> {
+pub fn route<'a>(rt: &HostRuntime, meter: &'a Meter, asked: &RouteJob<'a>) -> Result<(), Refusal> {
     let Some(shards) = shards_word(asked.shards) else {
         return Err(Refusal::from(WordFault::BadShards));
     };

@@ -14,11 +14,11 @@ use shard_questions::answer_shards;
 use std::thread::Threads;
 
 /// Audits the journals that are named.
-pub fn audit_shards<R: Threads + Sync>(
+pub fn audit_shards<'a, R: Threads + Sync>(
     rt: &HostRuntime,
     threads: &R,
-    meter: &Meter,
-    asked: &AuditJob<'_>,
+    meter: &'a Meter,
+    asked: &AuditJob<'a>,
 ) -> Result<(), Refusal> {
     let over = &asked.over;
     let days = days_of(over.first, over.days)?;
@@ -40,15 +40,15 @@ pub fn audit_shards<R: Threads + Sync>(
 
 /// Answers a question about the journals that are named, as about one of all of them. An answer that is a page is refused where it is
 /// too long.
-pub fn shards_asked<R: Threads + Sync, Q: Question>(
+pub fn shards_asked<'a, R: Threads + Sync, Q: Question>(
     rt: &HostRuntime,
     threads: &R,
-    meter: &Meter,
-    over: &Horizon<'_>,
+    meter: &'a Meter,
+    over: &Horizon<'a>,
     days: (Day, u16),
     question: &Q,
-    first: &str,
-    others: &[&str],
+    first: &'a str,
+    others: &[&'a str],
     is_page: bool,
 ) -> Result<(), Refusal>
     requires first { IsOfCentury days.0 }
@@ -145,11 +145,11 @@ fn shards_opened<'a>(
 }
 
 /// What it came to, of the file that it is of.
-fn noted(
+fn noted<'a>(
     outcome: Result<(), ShardFault>,
-    inputs: &Inputs<Input<'_>, Input<'_>>,
-    journals: &[Input<'_>],
-    outs: &[&Output<'_>],
+    inputs: &Inputs<Input<'a>, Input<'a>>,
+    journals: &[Input<'a>],
+    outs: &[&Output<'a>],
 ) -> Result<(), Refusal> {
     match outcome {
         Ok(()) => Ok(()),

@@ -78,10 +78,10 @@ fn start<T: Threads + Wait + Clock + Sync + Copy + Send + 'static>(
 }
 
 /// Runs the command that these words name, with what their season says among them where they name one.
-pub fn done_by<T: Threads + Wait + Clock + Sync + Copy + Send + 'static>(
-    rt: &HostRuntime,
+pub fn done_by<'a, T: Threads + Wait + Clock + Sync + Copy + Send + 'static>(
+    rt: &'a HostRuntime,
     threads: &T,
-    words: &[&str],
+    words: &'a [&'a str],
 ) -> io::Result<ExitCode> {
     let asked = match read_words(rt.alloc(), words) {
         Ok(asked) => asked,
@@ -109,11 +109,11 @@ fn tell_of_season(rt: &HostRuntime, words: &[&str], error: &clap::Error) {
 }
 
 /// Does what the command line asks for.
-fn carry_out<T: Threads + Wait + Clock + Sync + Copy + Send + 'static>(
-    rt: &HostRuntime,
+fn carry_out<'a, T: Threads + Wait + Clock + Sync + Copy + Send + 'static>(
+    rt: &'a HostRuntime,
     threads: &T,
-    meter: &Meter,
-    asked: &CommandLine<'_>,
+    meter: &'a Meter,
+    asked: &CommandLine<'a>,
 ) -> Result<ExitCode, Undone> {
     match &asked.job {
         Job::Ladder => done(question_commands::ladder(rt)),
@@ -200,11 +200,11 @@ fn seasoned(rt: &HostRuntime, set: &str, limits: &str) -> Result<ExitCode, Undon
 }
 
 /// A list against a journal, where the words say whose bookings it is to have.
-fn reconciled<T: Threads + Sync>(
+fn reconciled<'a, T: Threads + Sync>(
     rt: &HostRuntime,
     threads: &T,
-    meter: &Meter,
-    asked: &ReconcileJob<'_>,
+    meter: &'a Meter,
+    asked: &ReconcileJob<'a>,
 ) -> Result<ExitCode, Undone> {
     if asked.all && asked.session.is_some() {
         return Err(Undone::Word(words_in_conflict(rt.alloc(), BOTH)?));
@@ -220,10 +220,10 @@ fn reconciled<T: Threads + Sync>(
 }
 
 /// A host, where its words say whom it serves.
-fn served<T: Threads + Wait + Clock + Copy + Send + 'static>(
-    rt: &HostRuntime,
+fn served<'a, T: Threads + Wait + Clock + Copy + Send + 'static>(
+    rt: &'a HostRuntime,
     threads: &T,
-    asked: &ServeJob<'_>,
+    asked: &ServeJob<'a>,
 ) -> Result<ExitCode, Undone> {
     if asked.desks.as_slice().is_empty() && asked.manager.is_none() && asked.feed.is_none() {
         return Err(Undone::Word(wrong_value(rt.alloc(), NOBODY)?));
@@ -232,11 +232,11 @@ fn served<T: Threads + Wait + Clock + Copy + Send + 'static>(
 }
 
 /// The journals of hosts that have different flights, or one journal, with the scripts of its run or alone.
-fn audited<T: Threads + Sync>(
+fn audited<'a, T: Threads + Sync>(
     rt: &HostRuntime,
     threads: &T,
-    meter: &Meter,
-    asked: &AuditJob<'_>,
+    meter: &'a Meter,
+    asked: &AuditJob<'a>,
 ) -> Result<(), Refusal> {
     if asked.are_shards {
         return question_commands::audit_shards(rt, threads, meter, asked);

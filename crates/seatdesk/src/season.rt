@@ -71,11 +71,11 @@ fn words_over(
 }
 
 /// Runs `compare` over what two seasons say of a set, its limits and its days.
-pub fn compared<T: Threads + Sync>(
+pub fn compared<'a, T: Threads + Sync>(
     rt: &HostRuntime,
     threads: &T,
-    meter: &Meter,
-    asked: &CompareJob<'_>,
+    meter: &'a Meter,
+    asked: &CompareJob<'a>,
     is_verbose: bool,
 ) -> Result<ExitCode, Undone> {
     let (from, to) = match both_words(rt, asked.from, asked.to, is_verbose)? {
@@ -98,11 +98,11 @@ pub fn compared<T: Threads + Sync>(
 }
 
 /// Runs `carry` over what two seasons say of a set, its limits and its days. Its status says too where legs have too few seats.
-pub fn carried<T: Threads + Sync>(
-    rt: &HostRuntime,
+pub fn carried<'a, T: Threads + Sync>(
+    rt: &'a HostRuntime,
     threads: &T,
-    meter: &Meter,
-    asked: &CarryJob<'_>,
+    meter: &'a Meter,
+    asked: &CarryJob<'a>,
     is_verbose: bool,
 ) -> Result<ExitCode, Undone> {
     let (from, to) = match both_words(rt, asked.from, asked.to, is_verbose)? {
@@ -161,13 +161,13 @@ fn over_both(
     }
 }
 
-fn compared_over<T: Threads + Sync>(
+fn compared_over<'a, T: Threads + Sync>(
     rt: &HostRuntime,
     threads: &T,
-    meter: &Meter,
-    from: &[&str],
-    to: &[&str],
-    journal: Option<&str>,
+    meter: &'a Meter,
+    from: &'a [&'a str],
+    to: &'a [&'a str],
+    journal: Option<&'a str>,
 ) -> Result<(), Undone> {
     let from = horizon_in(rt, from)?;
     let to = horizon_in(rt, to)?;
