@@ -21,3 +21,21 @@ returns-clause-says c =
     let enough : c.args.command.now.seats ≤ c.index-book_at-at.result.seats = c.if-seats-booking.false in
     let test : nat_le c.args.command.now.seats c.index-book_at-at.result.seats ≡ true = grind (arith, nat_tests) in
     rw (here, test) (record { reply = sym c.of.ensures; released = sym c.released.ensures; advices = IfOk-weaker c.advices_without.result _ _ (λ t e. sym e) c.advices_without.ensures.told })
+
+pub advices_without-requires-clause-flight : goal.advices_without-requires-clause-flight
+advices_without-requires-clause-flight c = c.requires.flight
+
+pub advices_without-requires-clause-order : goal.advices_without-requires-clause-order
+advices_without-requires-clause-order c = c.requires.order
+
+pub advices_without-requires-clause-some : goal.advices_without-requires-clause-some
+advices_without-requires-clause-some c = c.requires.some
+
+pub advices_without-requires-clause-enough : goal.advices_without-requires-clause-enough
+advices_without-requires-clause-enough c = c.if-seats-booking.false
+
+pub returns-clause-limits : goal.returns-clause-limits
+returns-clause-limits c = c.advices_without.ensures.limits
+
+pub returns-clause-seats : goal.returns-clause-seats
+returns-clause-seats c = c.advices_without.ensures.seats
