@@ -1,4 +1,5 @@
 pub mod Counted
+pub mod Faults
 pub mod Hands
 pub mod Judged
 pub mod Known

@@ -129,7 +129,6 @@ pub fn hand_over<S: Replaced, J: Replaced, K: Replaced, W: NotedWrite>(
 }
 
 /// The same, each step over its text.
-#[tactic(auto, using(crate::proofs::Ordered::order_ahead, crate::proofs::Ordered::order_behind, crate::proofs::Ordered::order_closing, crate::proofs::Ordered::handed, crate::proofs::Ordered::handed_over, crate::proofs::Ordered::taken_back, crate::proofs::Ordered::unfinished_ahead, crate::proofs::Ordered::unfinished_name, crate::proofs::Ordered::unfinished_alone, seat_disk::proofs::Keeping::no_more_on, seat_disk::proofs::Syncs::none_between))]
 fn hand_in_order<S: Replaced, J: Replaced, K: Replaced, W: NotedWrite>(
     hand: Hand,
     before: &[u8],
@@ -208,7 +207,6 @@ pub(crate) fn text_of_mark(known: Sealed, name: &str, whole: &[u8]) -> SealText
 }
 
 /// The mark, the seal that names both what stood under the newer journal's name and that journal, and the newer journal, each over its text.
-#[tactic(auto, using(crate::proofs::Ordered::mark_failed, crate::proofs::Ordered::both_failed, crate::proofs::Ordered::text_failed, crate::proofs::Ordered::name_failed, seat_disk::proofs::Keeping::no_more))]
 fn begin<S: Replaced, J: Replaced, K: Replaced>(
     mark: &[u8],
     both: &[u8],

@@ -50,7 +50,6 @@ pub fn may_hand_each(
 }
 
 /// Adds what is done with each, the first of which is at this place, and says whether that is nothing with any.
-#[tactic(auto, using(crate::proofs::Judged::none_left, crate::proofs::Judged::none_added, crate::proofs::Judged::none_whole, crate::proofs::Judged::here_refused, crate::proofs::Judged::later_refused, crate::proofs::Judged::none_refused, crate::proofs::Judged::all_added, crate::proofs::Judged::all_whole))]
 fn judge_all(
     knowns: &[Sealed],
     name: &str,

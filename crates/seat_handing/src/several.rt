@@ -75,7 +75,6 @@ fn copied(alloc: Global, text: &[u8]) -> Result<Items<u8>, AllocError>
 /// Where a file fails ahead of the newer journal's name, each mark of a journal that had none is taken back, the last one first; one that can't be, or a
 /// journal that had a mark, leaves those ahead of it marked.
 /// At no moment does a crash leave the newer journal beside a seal of any of the older ones without the mark, unless it stood there before.
-#[tactic(auto, using(crate::proofs::Olders::all_handed, crate::proofs::Olders::taken_marks, crate::proofs::Olders::taken_all, crate::proofs::Olders::unfinished_marks, crate::proofs::Olders::unfinished_back, crate::proofs::Olders::unfinished_last, crate::proofs::Olders::never_same, crate::proofs::Olders::never_any_same, crate::proofs::Olders::never_any_back, crate::proofs::Olders::any_marked, crate::proofs::Olders::within_same, crate::proofs::Olders::taken_within, crate::proofs::Olders::kept_through, crate::proofs::Olders::unsynced_through, crate::proofs::Olders::same_names, seat_disk::proofs::Keeping::no_more))]
 pub fn hand_over_several<S: Replaced, J: Replaced, K: Replaced, W: NotedWrite>(
     marks: &[OlderMark],
     seals: &mut [S],
@@ -162,7 +161,7 @@ pub fn hand_over_several<S: Replaced, J: Replaced, K: Replaced, W: NotedWrite>(
 }
 
 /// Marks these seals in order, each on the disk. Where one fails the marks of journals that had none are taken back, the last one first.
-#[tactic(auto, using(crate::proofs::Olders::as_many_later, crate::proofs::Olders::not_fewer, crate::proofs::Olders::marked_none, crate::proofs::Olders::marked_more, crate::proofs::Olders::unmarked_here, crate::proofs::Olders::unmarked_later, crate::proofs::Olders::stopped_here, crate::proofs::Olders::stopped_back, crate::proofs::Olders::stopped_later, crate::proofs::Olders::kept_same, crate::proofs::Olders::kept_here, crate::proofs::Olders::kept_back, crate::proofs::Olders::kept_more, crate::proofs::Olders::unsynced_same, crate::proofs::Olders::unsynced_here, crate::proofs::Olders::unsynced_back, crate::proofs::Olders::unsynced_more, crate::proofs::Olders::synced_none, crate::proofs::Olders::synced_more))]
+#[tactic(auto, using(crate::proofs::Olders::as_many_later))]
 fn mark_all<S: Replaced>(marks: &[OlderMark], seals: &mut [S]) -> Result<(), HandFault>
     requires as_many { length marks.now ≡ length seals.old }
     ensures ok { OnOk result (AreMarked S.failure_count S.named S.may_leave marks.now seals.old seals.new) }
@@ -195,7 +194,7 @@ fn mark_all<S: Replaced>(marks: &[OlderMark], seals: &mut [S]) -> Result<(), Han
 }
 
 /// Takes the marks of these seals back, the last one first, until one had another mark or can't be.
-#[tactic(auto, using(crate::proofs::Olders::as_many_later, crate::proofs::Olders::not_fewer, crate::proofs::Olders::back_none, crate::proofs::Olders::back_more, crate::proofs::Olders::staying_here, crate::proofs::Olders::staying_later, crate::proofs::Olders::kept_same, crate::proofs::Olders::kept_more, crate::proofs::Olders::unsynced_same, crate::proofs::Olders::unsynced_more, seat_disk::proofs::Keeping::no_more))]
+#[tactic(auto, using(crate::proofs::Olders::as_many_later))]
 fn take_back_all<S: Replaced>(marks: &[OlderMark], seals: &mut [S]) -> HandFault
     requires as_many { length marks.now ≡ length seals.old }
     ensures taken { result ≡ HandFault.TakenBack → AreBack S.failure_count S.named S.may_leave marks.now seals.old seals.new }
