@@ -2,7 +2,7 @@
 use std::alloc::{AllocError, AllocFailed};
 
 /// The answer of a call whose only refusal is want of memory.
-#[derive(Clone, Copy)]
+#[derive(Clone, Copy, Debug)]
 pub struct Memory;
 
 impl From<AllocError> for Memory {
