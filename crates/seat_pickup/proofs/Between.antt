@@ -122,3 +122,11 @@ pair_sums_are grid journal lines moves n sold_ahead cancelled_ahead confirmed_ah
     before in
     same_sums sums (moved_behind grid journal lines on n 65) ahead sells cancels confirms
     (holds on grid journal lines count n legal inside sums.before sums.sold sums.cancelled sums.confirmed sums.held ahead sells cancels confirms held)
+
+-- a row that has what lines moved has it of these lines and this pairing
+pub counted_there : (moved : Where → Entry → Counts) (count : ℕ) (told pairing : Pairing) (some lines : List Entry) (row : List ℕ)
+    → told ≡ pairing → some ≡ lines → AreCounts count (sum_of (moved (pairs_at told)) some) row
+    → AreCounts count (sum_of (moved (pairs_at pairing)) lines) row
+counted_there moved count told pairing some lines row same these are =
+    subst (λ (p : Pairing). AreCounts count (sum_of (moved (pairs_at p)) lines) row) same
+    (subst (λ (l : List Entry). AreCounts count (sum_of (moved (pairs_at told)) l) row) these are)
