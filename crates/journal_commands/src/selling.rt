@@ -189,12 +189,15 @@ fn past_opened<'a>(rt: &HostRuntime, asking: &RunJob<'a>) -> Result<Past<'a>, Re
 
 /// Whether the older journal is the very file whose scripts have grown: there would be no line of theirs.
 fn is_one_journal(past: &Past<'_>) -> Result<bool, Refusal> {
-    let Some(resumed) = past.resumed.metadata()? else {
-        return Ok(false);
+    let resumed = match past.resumed.metadata() {
+        Ok(Some(resumed)) => resumed,
+        Ok(None) => return Ok(false),
+        Err(refusal) => return Err(refusal),
     };
-    match past.after.metadata()? {
-        Some(older) => Ok(older.is_file() && is_same(&older, &resumed)),
-        None => Ok(false),
+    match past.after.metadata() {
+        Ok(Some(older)) => Ok(older.is_file() && is_same(&older, &resumed)),
+        Ok(None) => Ok(false),
+        Err(refusal) => Err(refusal),
     }
 }
 
@@ -506,8 +509,10 @@ fn keeps_both<'a>(
     place: &mut Place<'a>,
 ) -> Result<bool, Refusal> {
     let journal = &place.journal;
-    if is_gone_on_from(&past.after, journal)? || is_gone_on_from(&past.resumed, journal)? {
-        return Ok(false);
+    match are_gone_on_from(past, journal) {
+        Ok(true) => return Ok(false),
+        Ok(false) => {}
+        Err(refusal) => return Err(refusal),
     }
     if let (Some(path), Some(seal)) = (place.journal.path(), place.seal.path()) {
         let number = of(place.journal.name(), kept_number(rt, path, seal))?;
@@ -560,7 +565,10 @@ fn lines_ahead<'a>(
     if asking.after.is_none() {
         return u64::from(given.unwrap_or(0));
     }
-    lines_of(rt, asking.after, after, &mut place.journal).unwrap_or(0)
+    match lines_of(rt, asking.after, after, &mut place.journal) {
+        Ok(lines) => lines,
+        Err(_) => 0,
+    }
 }
 
 /// How many lines the new journal went on from, as its seal says.
@@ -581,8 +589,10 @@ fn lines_of<'a>(
     let Some(path) = path else {
         return Ok(0);
     };
-    if is_gone_on_from(input, journal)? {
-        return Ok(journal.older_lines().unwrap_or(0));
+    match is_gone_on_from(input, journal) {
+        Ok(true) => return Ok(journal.older_lines().unwrap_or(0)),
+        Ok(false) => {}
+        Err(refusal) => return Err(refusal),
     }
     match fs::open(rt, path) {
         Ok(mut file) => Ok(lines_in(rt, &mut file).unwrap_or(0)),
@@ -606,19 +616,31 @@ fn open_past_again<'a>(
 }
 
 fn is_regular(input: &Input<'_>) -> Result<bool, Refusal> {
-    match input.metadata()? {
-        Some(file) => Ok(file.is_file()),
-        None => Ok(false),
+    match input.metadata() {
+        Ok(Some(file)) => Ok(file.is_file()),
+        Ok(None) => Ok(false),
+        Err(refusal) => Err(refusal),
+    }
+}
+
+/// Whether one of the older journals is the very file that the new one is put into.
+fn are_gone_on_from<'a>(past: &Past<'a>, journal: &JournalFile<'a>) -> Result<bool, Refusal> {
+    match is_gone_on_from(&past.after, journal) {
+        Ok(false) => is_gone_on_from(&past.resumed, journal),
+        found => found,
     }
 }
 
 /// Whether the older journal is the very file that the new one is put into.
 fn is_gone_on_from<'a>(after: &Input<'a>, journal: &JournalFile<'a>) -> Result<bool, Refusal> {
-    let Some(out) = journal.metadata()? else {
-        return Ok(false);
+    let out = match journal.metadata() {
+        Ok(Some(out)) => out,
+        Ok(None) => return Ok(false),
+        Err(refusal) => return Err(refusal),
     };
-    match after.metadata()? {
-        Some(older) => Ok(is_same(&older, &out)),
-        None => Ok(false),
+    match after.metadata() {
+        Ok(Some(older)) => Ok(is_same(&older, &out)),
+        Ok(None) => Ok(false),
+        Err(refusal) => Err(refusal),
     }
 }
