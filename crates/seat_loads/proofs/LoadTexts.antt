@@ -1,6 +1,7 @@
 -- The lines of legs, and the text of all of them.
-use Rattle.std.proofs.Common.{arith, Bool, true, false, ◌≡◌, ℕ, ◌+◌, ◌<◌, List, [], ◌∷◌, ◌++◌, length, drop, get_or, refl, sym, ap, ◌∙◌, subst, append_assoc, codes, Option}
+use Rattle.std.proofs.Common.{arith, Bool, true, false, ◌≡◌, ℕ, ◌+◌, ◌<◌, ◌≤◌, List, [], ◌∷◌, ◌++◌, length, drop, get_or, refl, sym, ap, ◌∙◌, subst, append_assoc, codes, Option}
 use Rattle.std.specs.List.{flat_map}
+use Rattle.std.proofs.Math.ListN.{drop_of_length-le}
 use Rattle.std.proofs.lemmas.List.{append-nil}
 use Rattle.seat_questions.proofs.Common.{DatedLeg, Flight, Fits, Ladders, Steps, Entry, replay, State, IsLegText}
 use Rattle.seat_nesting.specs.Nesting.{ByClass, held_from, ladder_at, legs_of}
@@ -9,11 +10,12 @@ use Rattle.seat_rules.specs.Inventory.{Inventory, state_now}
 use Rattle.seat_desk.specs.AuditDesk.{IsReplayOf}
 use Rattle.seat_desk.specs.FlightsDesk.{IsPut, IsText, head_text}
 use Rattle.seat_questions.specs.Rooms.{bars_text}
-use Rattle.seat_questions.specs.Why.{one_leg}
 use Rattle.seat_questions.specs.declared.rooms.Bars.{Bars}
 use Rattle.airline_base.specs.declared.place.Place.{Place}
 use Rattle.seat_lists.specs.Picking.{keeps_flight}
-use Rattle.seat_loads.specs.Legs.{is_kept, load_text, load_texts, standing_text}
+use Rattle.seat_rules.specs.Bookings.{held, waiting}
+use Rattle.seat_questions.specs.Why.{one_leg, room_text, wait_text}
+use Rattle.seat_loads.specs.Legs.{classes_text, held_on, is_kept, load_text, load_texts, share_text, standing_text, top_limit}
 use Rattle.seat_loads.specs.Loads.{AreLoadsAfter, IsFlightPart, IsFlightPartBy, IsLegLine, IsLegPart, IsLegPartBy, IsLoadsText, IsPutBehind}
 use Rattle.seat_loads.specs.Sums.{AreSums, sums_text}
 use Rattle.seat_loads.specs.declared.loads.LoadsOf.{LoadsOf}
@@ -115,3 +117,38 @@ class_put seats steps ladder i s count mid new whole same inside is counted so_f
     ∙ append_assoc mid (load_text (held_from seats (s ∷ drop (i + 1) steps)) s) (load_texts seats (drop (i + 1) steps))
     ∙ ap (λ (l : Steps). mid ++ load_texts seats l) (sym rest)
     ∙ so_far
+
+-- and all of them
+pub classes_whole : (seats : ByClass) (steps : Steps) (i : ℕ) (all whole : List ℕ) → all ++ load_texts seats (drop i steps) ≡ whole
+    → length steps ≤ i → all ≡ whole
+classes_whole seats steps i all whole so_far over =
+    sym (append-nil all) ∙ ap (λ (l : Steps). all ++ load_texts seats l) (sym (drop_of_length-le steps over)) ∙ so_far
+
+-- ---- the standing of a leg
+
+assoc_seven : (o a b c d e f g : List ℕ) → ((((((o ++ a) ++ b) ++ c) ++ d) ++ e) ++ f) ++ g ≡ o ++ (a ++ b ++ (c ++ d ++ e ++ f ++ g))
+assoc_seven o a b c d e f g = simp append_assoc
+
+pub standing_put : (s : State) (flight leg seats top : ℕ) (steps : Steps) (old a b c d e f new : List ℕ)
+    → steps ≡ ladder_at s.grid flight leg → seats ≡ held_on s flight leg → top ≡ top_limit steps
+    → a ≡ old ++ codes " LOAD " → b ≡ a ++ share_text seats top → c ≡ b ++ load_texts (held s.bookings flight leg) steps
+    → d ≡ c ++ codes " ROOM" → e ≡ d ++ flat_map (room_text s flight leg) steps → f ≡ e ++ codes " WAIT"
+    → new ≡ f ++ flat_map (wait_text (waiting s.bookings flight leg)) steps → new ≡ old ++ standing_text s flight leg
+standing_put s flight leg seats top steps old a b c d e f new at held_is top_is is_a is_b is_c is_d is_e is_f is_new =
+    let share : List ℕ = share_text seats top in
+    let loads : List ℕ = load_texts (held s.bookings flight leg) steps in
+    let rooms : List ℕ = flat_map (room_text s flight leg) steps in
+    let waits : List ℕ = flat_map (wait_text (waiting s.bookings flight leg)) steps in
+    let to_b : b ≡ (old ++ codes " LOAD ") ++ share = is_b ∙ ap (λ (l : List ℕ). l ++ share) is_a in
+    let to_c : c ≡ ((old ++ codes " LOAD ") ++ share) ++ loads = is_c ∙ ap (λ (l : List ℕ). l ++ loads) to_b in
+    let to_d : d ≡ (((old ++ codes " LOAD ") ++ share) ++ loads) ++ codes " ROOM" = is_d ∙ ap (λ (l : List ℕ). l ++ codes " ROOM") to_c in
+    let to_e : e ≡ ((((old ++ codes " LOAD ") ++ share) ++ loads) ++ codes " ROOM") ++ rooms = is_e ∙ ap (λ (l : List ℕ). l ++ rooms) to_d in
+    let to_f : f ≡ (((((old ++ codes " LOAD ") ++ share) ++ loads) ++ codes " ROOM") ++ rooms) ++ codes " WAIT" = is_f ∙ ap (λ (l : List ℕ). l ++ codes " WAIT") to_e in
+    let classes : List ℕ = classes_text s flight leg steps in
+    let flat : new ≡ old ++ (codes " LOAD " ++ share ++ classes) =
+    is_new ∙ ap (λ (l : List ℕ). l ++ waits) to_f ∙ assoc_seven old (codes " LOAD ") share loads (codes " ROOM") rooms (codes " WAIT") waits in
+    let seats_there : new ≡ old ++ (codes " LOAD " ++ share_text (held_on s flight leg) top ++ classes) =
+    flat ∙ ap (λ (n : ℕ). old ++ (codes " LOAD " ++ share_text n top ++ classes)) held_is in
+    let limit_there : new ≡ old ++ (codes " LOAD " ++ share_text (held_on s flight leg) (top_limit steps) ++ classes) =
+    seats_there ∙ ap (λ (n : ℕ). old ++ (codes " LOAD " ++ share_text (held_on s flight leg) n ++ classes)) top_is in
+    subst (λ (l : Steps). new ≡ old ++ (codes " LOAD " ++ share_text (held_on s flight leg) (top_limit l) ++ classes_text s flight leg l)) at limit_there

@@ -2,6 +2,7 @@ use Rattle.std.proofs.Common.{ℕ, [], subst, sym, zero-add}
 use Rattle.seat_rules.specs.Inventory.{state_now}
 use Rattle.seat_desk.proofs.Texts.{put_more, put_none, text_whole}
 use Rattle.seat_questions.proofs.Covers.{there, here}
+use Rattle.seat_questions.proofs.RoomTexts.{legs_alike}
 use Rattle.seat_loads.specs.Loads.{IsFlightPart}
 use Rattle.seat_loads.proofs.loads.lines_of.Goals as goal
 
@@ -18,3 +19,12 @@ loop-index-preserved c =
 
 pub returns : goal.returns
 returns c = text_whole (IsFlightPart c.args.asked.now (state_now c.args.core.now)) 0 c.loop-index.index c.len-index-end.result c.args.flights.now c.loop-index.text.items c.loop-index.invariant c.len-index-end.ensures.value c.loop-index-test.false
+
+pub put_kept_flight-requires-clause-capped : goal.put_kept_flight-requires-clause-capped
+put_kept_flight-requires-clause-capped c = c.requires.capped
+
+pub put_kept_flight-requires-clause-few : goal.put_kept_flight-requires-clause-few
+put_kept_flight-requires-clause-few c = c.flight.ensures.legs
+
+pub put_kept_flight-requires-clause-legs : goal.put_kept_flight-requires-clause-legs
+put_kept_flight-requires-clause-legs c = legs_alike c.args.flights.now c.args.core.now.grid c.loop-index.index c.flight.result.now c.requires.grid c.flight.ensures.value
