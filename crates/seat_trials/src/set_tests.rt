@@ -29,7 +29,7 @@ fn cuts_and_wrong_bytes(rt: HostRuntime) -> Result<(), Fail> {
             200 | 400 => SetKind::NoTrailer,
             _ => SetKind::Short,
         };
-        let nth = (n / 200 + 1) as u32;
+        let nth = u32::try_from(n / 200 + 1).unwrap_or(0);
         let is_cut = is_refused(rt.alloc(), &whole[..n], nth, want);
         holds_at(&rt, is_cut, "bytes", n);
         let changed = changed(&whole, n)?;
