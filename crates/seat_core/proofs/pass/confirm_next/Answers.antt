@@ -55,5 +55,8 @@ returns-clause-further c = omega arith
 
 pub returns-clause-inside : goal.returns-clause-inside
 returns-clause-inside c =
-    omega (arith, found_inside (limits_of c.args.counts.now) (table_of c.args.counts.now) c.args.queue.now.bookings c.args.from c.in-Some.behind
-    c.in-Some.ensures)
+    omega (
+      arith,
+      found_inside (limits_of c.args.counts.now) (table_of c.args.counts.now) c.args.queue.now.bookings c.args.from c.in-Some.behind
+          c.in-Some.ensures,
+    )
