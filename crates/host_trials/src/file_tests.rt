@@ -28,18 +28,6 @@ fn folder(rt: &HostRuntime) -> io::Result<String> {
     Err(io::Error::other("no name is free"))
 }
 
-/// A file under its lock, and what it has.
-fn opened(rt: &HostRuntime, name: &str) -> Result<(TapeFile, Vec<u8>), Why> {
-    let Ok(tape) = open(rt, name) else {
-        return Err(Why::File);
-    };
-    let mut tape = tape;
-    match tape.read_all(rt.alloc(), MOST_OPEN_BYTES) {
-        Ok(bytes) => Ok((tape, bytes)),
-        Err(_) => Err(Why::File),
-    }
-}
-
 /// Goes on with the journal of a file, asks for all lines of the worked ones that it has not, and leaves it open: how many
 /// lines it had, what stood behind them, and the number of the file beside it.
 fn visit<W: Wait>(
@@ -51,7 +39,13 @@ fn visit<W: Wait>(
     let Some(grid) = grid(rt.alloc()) else {
         return Err(Why::Grid);
     };
-    let (tape, bytes) = opened(rt, name)?;
+    let Ok(tape) = open(rt, name) else {
+        return Err(Why::File);
+    };
+    let mut tape = tape;
+    let Ok(bytes) = tape.read_all(rt.alloc(), MOST_OPEN_BYTES) else {
+        return Err(Why::File);
+    };
     let mut beside = BesideFile::of(rt, name);
     match Serving::go_on(
         wait,
