@@ -9,7 +9,7 @@ pub(crate) struct Told<const MOST: usize> {
     text: ArrayString<MOST>,
 }
 
-/// The name of a file, or a word. No file has a name of more than 4,095 bytes.
+/// The name of a file, or a word.
 pub(crate) type ToldName = Told<1023>;
 
 /// Why something is refused, what a name ends with, or a key of a season.
