@@ -29,6 +29,8 @@ ITEM = re.compile(
     r"(?:pub(?:\([^)]*\))?\s+)?(?:(?:ghost|unsafe|async)\s+)?(?:const\s+(?=fn\b))?"
     r"(?P<kind>use|mod|fn|const|static|struct|enum|impl|trait|type)\b\s*(?P<name>\w*)"
 )
+COMMAND = re.compile(r"Job::(\w+)\s*")
+OR = re.compile(r"\s*\|\s*")
 ARROW = re.compile(r"\s*=>\s*")
 CLAUSES = re.compile(r"\s*(?:(?:requires|ensures|decreases)\b[^{;]*)?\{")
 ENDS_AT_SEMICOLON = ("use", "const", "static", "type")
@@ -149,14 +151,31 @@ def cut(text, spans):
     return text
 
 
+def pattern(code, at):
+    """The commands of a pattern that begins here, of which several stand with | between them, in small letters, and where it ends."""
+    names = set()
+    while True:
+        name = COMMAND.match(code, at)
+        if not name:
+            return names, at
+        names.add(name[1].lower())
+        at = closing(code, name.end()) + 1 if code[name.end()] in "({" else name.end()
+        more = OR.match(code, at)
+        if not more:
+            return names, at
+        at = more.end()
+
+
 def without_arms(text, wanted):
-    """The text with nothing behind each arm of a command that is not the wanted one."""
+    """The text with nothing behind each arm of commands among which the wanted one is not."""
     code = blanked(text)
     spans = []
-    for arm in re.finditer(r"(?<![|\w])\s*\bJob::(\w+)\s*", code):
-        at = closing(code, arm.end()) + 1 if code[arm.end()] in "({" else arm.end()
+    arm = COMMAND.search(code)
+    while arm:
+        names, at = pattern(code, arm.start())
+        arm = COMMAND.search(code, at)
         arrow = ARROW.match(code, at)
-        if arm[1].lower() == wanted or not arrow:
+        if wanted in names or not arrow:
             continue
         at = arrow.end()
         if code[at] == "{":
