@@ -35,7 +35,7 @@ pub fn behind(
     outcome: Result<(), Refusal>,
     scripts: &[Input<'_>],
     more: &[&Input<'_>],
-    outputs: &[&Output<'_>],
+    outputs: &[&Output],
 ) -> Result<(), Refusal> {
     match outcome {
         Ok(()) => Ok(()),

@@ -2,10 +2,10 @@
 //! It knows which words name which, and nothing of how they are served.
 use crate::feeding::{Fed, feed_asked};
 use crate::piping::{Pipes, desks_named};
-use crate::serving::Open;
 use crate::stating::{Status, pass_status};
 use seat_desk::Inputs;
 use seat_files::{Input, Refusal, StatusFile};
+use seat_words::ServeJob;
 
 /// Whom a host serves. Of a feed it is known how it is read, or only how it is asked for.
 #[derive(Drop)]
@@ -19,7 +19,7 @@ pub enum Clients<F> {
 }
 
 /// Those that the words name; pipes are open.
-pub fn clients_named(rt: &HostRuntime, asked: &Open<'_, '_>) -> Result<Clients<Fed>, Refusal> {
+pub fn clients_named(rt: &HostRuntime, asked: &ServeJob<'_>) -> Result<Clients<Fed>, Refusal> {
     if asked.closes_departed && asked.manager.is_none() {
         return Err(Refusal::unfit("--close-departed", "Needs a manager, who gives the days"));
     }
@@ -46,7 +46,7 @@ impl Clients<Fed> {
 /// The file of the host's status, where the words name one. It may not be an input or the journal, which is there, nor have anything but a status.
 pub fn status_named<'a>(
     rt: &HostRuntime,
-    asked: &Open<'a, '_>,
+    asked: &ServeJob<'a>,
     inputs: &Inputs<Input<'a>, Input<'a>>,
 ) -> Result<Option<StatusFile>, Refusal> {
     let Some(path) = asked.status else {

@@ -4,15 +4,14 @@ ghost use Rattle.std.specs.Prelude.{IfOk};
 ghost use Rattle.airline_base.specs.Days.{IsCenturyDay};
 ghost use Rattle.seat_restoring.specs.Dating.{IsNotEarlier};
 
-use crate::serving::Open;
 use crate::stating::{Status, interval_asked};
 use airline_base::{Counted, Day, Memory};
+use desk_serving::{AheadReader, feed_day, first_line, has_fewer, needs_day, read_ahead};
 use desk_status::{Board, start_status};
-use desk_streaming::{AheadReader, feed_day, first_line, has_fewer, needs_day, read_ahead};
 use seat_desk::DeskFault;
 use seat_files::{Refusal, standard_input};
 use seat_seal::Beside;
-use seat_words::{WordFault, behind_word};
+use seat_words::{ServeJob, WordFault, behind_word};
 use std::alloc::Global;
 use std::sync::{Arc, Wait};
 use std::thread::Threads;
@@ -40,7 +39,7 @@ pub struct Stream<R> {
 }
 
 /// The feed, where one is asked for. It stands beside no desk, and has its days in it.
-pub fn feed_asked(asked: &Open<'_, '_>) -> Result<Option<Fed>, Refusal> {
+pub fn feed_asked(asked: &ServeJob<'_>) -> Result<Option<Fed>, Refusal> {
     let Some(feed) = asked.feed else {
         return match asked.behind {
             Some(_) => Err(Refusal::from(WordFault::BadBehind)),
@@ -50,7 +49,7 @@ pub fn feed_asked(asked: &Open<'_, '_>) -> Result<Option<Fed>, Refusal> {
     if feed != "-" {
         return Err(Refusal::unfit(feed, "Is not -, which a feed comes from"));
     }
-    if !asked.desks.is_empty() || asked.manager.is_some() {
+    if !asked.desks.as_slice().is_empty() || asked.manager.is_some() {
         return Err(Refusal::unfit("--feed", "Stands beside a desk or a manager"));
     }
     if asked.today.is_some() {
@@ -66,7 +65,7 @@ pub fn feed_asked(asked: &Open<'_, '_>) -> Result<Option<Fed>, Refusal> {
 }
 
 /// Behind how many lines of the journal it begins.
-fn behind_asked(asked: &Open<'_, '_>) -> Result<u32, Refusal> {
+fn behind_asked(asked: &ServeJob<'_>) -> Result<u32, Refusal> {
     let Some(word) = asked.behind else {
         return Ok(0);
     };

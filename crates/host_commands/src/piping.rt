@@ -2,7 +2,6 @@
 //! It knows which pipe is whose, and nothing of what goes over it.
 ghost use Rattle.std.specs.Prelude.{◌≤◌, IfSome};
 
-use crate::serving::Open;
 use crate::stating::{Status, interval_asked};
 use airline_base::Memory;
 use desk_looks::{Gallery, start_reader};
@@ -12,7 +11,7 @@ use desk_pipes::{
 use desk_status::{Board, start_status};
 use seat_desk::DeskFault;
 use seat_files::Refusal;
-use seat_words::{has_number, pipes_of, session_file, sessions_of};
+use seat_words::{ServeJob, has_number, pipes_of, session_file, sessions_of};
 use std::alloc::Global;
 use std::fs::File;
 use std::io;
@@ -57,22 +56,28 @@ pub struct Shared {
 }
 
 /// The pipes that the words name, open, or none for a desk on standard input and standard output.
-pub fn desks_named(rt: &HostRuntime, asked: &Open<'_, '_>) -> Result<Option<Pipes>, Refusal> {
-    if asked.desks.is_empty() {
+pub fn desks_named(rt: &HostRuntime, asked: &ServeJob<'_>) -> Result<Option<Pipes>, Refusal> {
+    if asked.desks.as_slice().is_empty() {
         return Err(Refusal::unfit("--desk", "Is missing"));
     }
     let every = interval_asked(asked.every)?;
     let Some(manager) = asked.manager else {
-        if is_standard(asked.desks) {
+        if is_standard(asked.desks.as_slice()) {
             return unstated(asked);
         }
         return Err(Refusal::unfit("--manager", "Is missing, whom desks on pipes need"));
     };
-    pipes_named(rt, asked.desks, manager, every, asked.closes_departed)
+    pipes_named(
+        rt,
+        asked.desks.as_slice(),
+        manager,
+        every,
+        asked.closes_departed,
+    )
 }
 
 /// A desk on standard input and standard output has no status beside it.
-fn unstated(asked: &Open<'_, '_>) -> Result<Option<Pipes>, Refusal> {
+fn unstated(asked: &ServeJob<'_>) -> Result<Option<Pipes>, Refusal> {
     match asked.status.or(asked.every) {
         Some(word) => Err(Refusal::unsaid(word, "Is for desks on pipes and for feeds alone")),
         None => Ok(None),

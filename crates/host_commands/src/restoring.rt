@@ -163,7 +163,7 @@ fn refused<'a>(
     journal: &'a str,
     tape: &TapeFile,
     beside: &BesideFile<'_>,
-    out: &Output<'a>,
+    out: &Output,
 ) -> Refusal
     // A file beside the journal that wants memory is told as that.
     ensures { (result.fault ≡ Fault.Desk fault)

@@ -20,8 +20,7 @@ use command_inputs::{day_of_run, days_of, inputs_of, tell_found_unsealed};
 use desk_answers::OpenHost;
 use desk_looks::{Gallery, Season};
 use desk_pipes::Outlook;
-use desk_serving::{HostedFault, serve_desks};
-use desk_streaming::{FedFault, StreamFault, serve_feed};
+use desk_serving::{FedFault, HostedFault, StreamFault, serve_desks, serve_feed};
 use desk_talk::{open_host, serve_sealed};
 use seat_desk::{Based, DeskFault, Inputs, Loaded, load_based};
 use seat_disk::{Replaced, Tape};
@@ -55,20 +54,6 @@ const NO_MEMORY: HostedFault = HostedFault::Day(ServeFault::Memory);
 /// The same, of a feed.
 const NO_ROOM_TO_SAY: FedFault = FedFault::Broken(StreamFault::Memory);
 
-/// What the words ask for besides the flights and limits.
-#[derive(Clone, Copy)]
-pub struct Open<'a, 'b> {
-    pub today: Option<&'a str>,
-    pub journal: &'a str,
-    pub desks: &'b [&'a str],
-    pub manager: Option<&'a str>,
-    pub status: Option<&'a str>,
-    pub every: Option<&'a str>,
-    pub feed: Option<&'a str>,
-    pub behind: Option<&'a str>,
-    pub closes_departed: bool,
-}
-
 /// Goes on with a journal beside its seal, or begins it, answers a desk up to the end of its input, or desks up to the manager's end, and
 /// ends and seals the journal.
 pub fn serve<'a, R: Threads + Wait + Clock + Copy + Send + 'static>(
@@ -77,33 +62,23 @@ pub fn serve<'a, R: Threads + Wait + Clock + Copy + Send + 'static>(
     job: &ServeJob<'a>,
 ) -> Result<(), Refusal> {
     let _error = standard_error_held(rt);
-    let asked = asked_by(job);
     let days = days_of(job.over.first, job.over.days)?;
-    let said = day_said(asked.today)?;
-    let mut clients = match clients_named(rt, &asked) {
+    let said = day_said(job.today)?;
+    let mut clients = match clients_named(rt, job) {
         Ok(clients) => clients,
         Err(refusal) => return Err(refusal),
     };
-    let (inputs, based) = match inputs_passed(rt, &job.over, days, asked.journal) {
+    let (inputs, based) = match inputs_passed(rt, &job.over, days, job.journal) {
         Ok(passed) => passed,
         Err(refusal) => return Err(refusal),
     };
-    let tape = match open(rt, asked.journal) {
+    let tape = match open(rt, job.journal) {
         Ok(tape) => tape,
-        Err(fault) => return Err(unopened(asked.journal, fault)),
+        Err(fault) => return Err(unopened(job.journal, fault)),
     };
-    let status = status_named(rt, &asked, &inputs)?;
+    let status = status_named(rt, job, &inputs)?;
     clients.place(rt, status);
-    serve_locked(
-        rt,
-        waits,
-        &inputs,
-        based,
-        said,
-        clients,
-        asked.journal,
-        tape,
-    )
+    serve_locked(rt, waits, &inputs, based, said, clients, job.journal, tape)
 }
 
 /// What stands in for standard error where nothing is open on it: a pipe or a file that is opened next would have its descriptor, and the notes.
@@ -111,21 +86,6 @@ fn standard_error_held(rt: &HostRuntime) -> Option<File> {
     match fs::metadata(rt, STANDARD_ERROR) {
         Ok(_) => None,
         Err(_) => File::open(rt, NOTHING).ok(),
-    }
-}
-
-/// What the words ask for besides the flights and limits.
-fn asked_by<'a, 'b>(job: &'b ServeJob<'a>) -> Open<'a, 'b> {
-    Open {
-        today: job.today,
-        journal: job.journal,
-        desks: job.desks.as_slice(),
-        manager: job.manager,
-        status: job.status,
-        every: job.every,
-        feed: job.feed,
-        behind: job.behind,
-        closes_departed: job.closes_departed,
     }
 }
 
@@ -344,7 +304,7 @@ fn serve_opened<R: Threads + Wait + Clock + Copy + Send + 'static, D: Tape + Dro
     basis: &Basis,
     sealed: Sealed,
     input: &mut Input<'_>,
-    out: &mut Output<'_>,
+    out: &mut Output,
     seals: &mut K,
 ) -> Result<(), (Unserved, D)>
     requires viewers { AreViewers (arc_value season.now).grid viewers.items }
@@ -392,7 +352,7 @@ fn stream_served<R: Threads + Wait + Clock + Copy + Send + 'static, D: Tape + Dr
     flights: &Flights,
     host: OpenHost<'_, D>,
     stream: Stream<R>,
-    out: &mut Output<'_>,
+    out: &mut Output,
     basis: &Basis,
     sealed: Sealed,
     seals: &mut K,

@@ -1,8 +1,7 @@
 //! Why a host does not begin, or does not end its journal, as the refusal that names the file.
 //! It knows the faults of each kind of host, and nothing of how one is served.
 use airline_base::{Failures, ReadFault};
-use desk_serving::HostedFault;
-use desk_streaming::{FedFault, StreamFault};
+use desk_serving::{FedFault, HostedFault, StreamFault};
 use desk_talk::{DayFault, ServedFault, TalkFault};
 use seat_desk::DeskFault;
 use seat_files::{Input, Output, Refusal};
@@ -26,7 +25,7 @@ pub fn refusal_of<'a>(
     journal: &'a str,
     tape: TapeFile,
     input: &Input<'a>,
-    out: &Output<'a>,
+    out: &Output,
 ) -> Refusal {
     match fault {
         Unserved::Desk(fault) => untalked(fault, journal, tape, input, out),
@@ -79,7 +78,7 @@ fn untalked<'a>(
     journal: &'a str,
     tape: TapeFile,
     input: &Input<'a>,
-    out: &Output<'a>,
+    out: &Output,
 ) -> Refusal {
     match fault {
         ServedFault::Day(DayFault::Talk(TalkFault::Input)) => Refusal::unread(input),
@@ -98,7 +97,7 @@ fn untalked<'a>(
 }
 
 /// Why the journal of a feed is not ended and sealed.
-fn unfed<'a>(fault: FedFault, journal: &'a str, tape: &TapeFile, out: &Output<'a>) -> Refusal {
+fn unfed<'a>(fault: FedFault, journal: &'a str, tape: &TapeFile, out: &Output) -> Refusal {
     match fault {
         FedFault::Behind => Refusal::from(WordFault::BadBehind),
         FedFault::Broken(StreamFault::Strange(line, number)) => {

@@ -241,7 +241,7 @@ fn handed<'a>(
     older: &mut Older<'a>,
     text: &Option<Vec<u8>>,
     newer: &mut Newer<'a>,
-    out: &mut Output<'a>,
+    out: &mut Output,
 ) -> Result<(), Refusal>
     requires imprint { carriage.entry.journal.imprint ≡ imprint_of (front_of carriage.text) }
 {
@@ -297,7 +297,7 @@ fn put<'a>(
     older: &mut Older<'a>,
     seal_text: &Option<Vec<u8>>,
     newer: &mut Newer<'a>,
-    out: &mut Output<'a>,
+    out: &mut Output,
 ) -> Result<(), Refusal>
     requires known { is_sealed carriage.known ≡ true }
     requires rules { IsTrue (is_seal (two_entries before (IsSealed carriage.entry))) }
@@ -340,7 +340,7 @@ fn put<'a>(
     }
 }
 
-pub(crate) fn write<'a>(out: &mut Output<'a>, text: &[u8]) -> Result<(), Refusal> {
+pub(crate) fn write(out: &mut Output, text: &[u8]) -> Result<(), Refusal> {
     match put_all(out, text) {
         Ok(()) => Ok(()),
         Err(_) => Err(Refusal::from(DeskFault::Device).noting_output(out)),

@@ -57,13 +57,13 @@ impl Ear {
 
 /// An output of replies, and what was heard of them.
 #[derive(Drop)]
-pub struct Heard<'a> {
-    out: Output<'a>,
+pub struct Heard {
+    out: Output,
     ear: Ear,
 }
 
-impl<'a> Heard<'a> {
-    pub fn new(out: Output<'a>) -> Heard<'a> {
+impl Heard {
+    pub fn new(out: Output) -> Heard {
         let ear = Ear {
             length: 0,
             code: [0; 2],
@@ -75,7 +75,7 @@ impl<'a> Heard<'a> {
         Heard { out, ear }
     }
 
-    pub fn output(&self) -> &Output<'a> {
+    pub fn output(&self) -> &Output {
         &self.out
     }
 
@@ -118,7 +118,7 @@ fn tell_unbooked(rt: &HostRuntime, has_refused: bool) {
     }
 }
 
-impl Failures for Heard<'_> {
+impl Failures for Heard {
     ghost failure_count = { λ s. output_failures s.out };
 
     fn failures(&self) -> u64 {
@@ -126,7 +126,7 @@ impl Failures for Heard<'_> {
     }
 }
 
-impl Write for Heard<'_> {
+impl Write for Heard {
     fn write(&mut self, buf: &[u8]) -> io::Result<usize> {
         self.write_noted(buf)
     }
@@ -136,7 +136,7 @@ impl Write for Heard<'_> {
     }
 }
 
-impl NotedWrite for Heard<'_> {
+impl NotedWrite for Heard {
     fn write_noted(&mut self, buf: &[u8]) -> io::Result<usize> {
         let wrote = self.out.write_noted(buf)?;
         self.ear.hear(&buf[..wrote]);

@@ -333,7 +333,7 @@ fn tell_sold<'a>(
     texts: &Texts<'a>,
     seals: &Seals,
     place: &Place<'a>,
-    out: &Heard<'a>,
+    out: &Heard,
 ) {
     let mut has_refused = false;
     if let Some(list) = place.journal.list() {
@@ -355,7 +355,7 @@ fn unsold<'a>(
     past: &Past<'a>,
     seals: &Seals,
     place: &mut Place<'a>,
-    out: &Heard<'a>,
+    out: &Heard,
 ) -> Result<(), Refusal> {
     let lines = lines_ahead(rt, sale.asking, sale.given, &past.after, place);
     let seal = seals.gone_on_from(sale.asking.resume.is_some());
@@ -378,7 +378,7 @@ fn booked<'a, T: Threads + Wait + Sync>(
     besides: &Besides<'_>,
     older: SealEntry,
     place: &mut Place<'a>,
-    out: &mut Heard<'a>,
+    out: &mut Heard,
 ) -> Result<(), DeskFault>
     requires first { IsOfCentury texts.old.inputs.first }
     requires days { (1 ≤ texts.old.inputs.days) × (texts.old.inputs.days ≤ 366) }
@@ -411,7 +411,7 @@ fn gone_on<'a, T: Threads + Wait + Sync>(
     besides: &Besides<'_>,
     older: SealEntry,
     place: &mut Place<'a>,
-    out: &mut Heard<'a>,
+    out: &mut Heard,
 ) -> Result<(), DeskFault>
     requires first { IsOfCentury texts.old.inputs.first }
     requires days { (1 ≤ texts.old.inputs.days) × (texts.old.inputs.days ≤ 366) }
@@ -452,7 +452,7 @@ fn begun<'a, T: Threads + Wait + Sync>(
     beside: &Beside<'_>,
     older: SealEntry,
     place: &mut Place<'a>,
-    out: &mut Heard<'a>,
+    out: &mut Heard,
 ) -> Result<(), DeskFault>
     requires first { IsOfCentury texts.old.inputs.first }
     requires days { (1 ≤ texts.old.inputs.days) × (texts.old.inputs.days ≤ 366) }

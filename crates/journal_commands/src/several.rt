@@ -479,7 +479,7 @@ fn handed<'a>(
     joined: JoinedCarriage,
     olders: &mut Olders<'a>,
     newer: &mut Newer<'a>,
-    out: &mut Output<'a>,
+    out: &mut Output,
 ) -> Result<(), Refusal>
     requires imprint { joined.carriage.entry.journal.imprint ≡ imprint_of (front_of joined.carriage.text) }
     requires seals { length joined.others + 1 ≡ vec_len olders.old.seals }
@@ -617,7 +617,7 @@ fn put_together<'a>(
     before: SealEntry,
     olders: &mut Olders<'a>,
     newer: &mut Newer<'a>,
-    out: &mut Output<'a>,
+    out: &mut Output,
 ) -> Result<(), Refusal>
     requires known { is_sealed carriage.known ≡ true }
     requires others { list_all is_sealed others ≡ true }

@@ -96,6 +96,16 @@ impl Meter {
         Meter { dial: Some(dial) }
     }
 
+    /// The same meter, for one more that counts on it or ends it. Where it can't be shared it is none.
+    pub fn shared(&self) -> Meter {
+        match &self.dial {
+            Some(dial) => Meter {
+                dial: Arc::try_clone(dial).ok(),
+            },
+            None => Meter::none(),
+        }
+    }
+
     /// What is counted.
     pub fn gauge(&self) -> Option<&Gauge> {
         match &self.dial {

@@ -215,7 +215,7 @@ fn answer_of<'a>(
     inputs: &Inputs<Input<'a>, Input<'a>>,
     journal: &Input<'a>,
     outcome: Result<(), DeskFault>,
-    out: &Output<'a>,
+    out: &Output,
     looked: Looked,
 ) -> Answer {
     match told(outcome, &[&inputs.set, &inputs.limits, journal], &[out]) {

@@ -96,7 +96,7 @@ fn compared<'a, R: Threads + Sync>(
     has_journal: bool,
     journal: &mut Input<'a>,
     seal: &SealFile,
-    out: &mut Output<'a>,
+    out: &mut Output,
 ) -> Result<(), SeasonFault>
     requires from_first { IsOfCentury from.old.first }
     requires from_days { (1 ≤ from.old.days) × (from.old.days ≤ 366) }
@@ -125,7 +125,7 @@ fn attempt_of<'a>(
     to: &Inputs<Input<'a>, Input<'a>>,
     from: &Inputs<Input<'a>, Input<'a>>,
     journal: &Input<'a>,
-    out: &Output<'a>,
+    out: &Output,
 ) -> Attempt {
     match outcome {
         Ok(()) => Attempt {

@@ -57,7 +57,7 @@ fn flights_put(
     set: &mut Input<'_>,
     first: Day,
     days: u16,
-    out: &mut Output<'_>,
+    out: &mut Output,
 ) -> Result<(), DeskFault>
     requires first { IsOfCentury first }
     requires days { (1 ≤ days) × (days ≤ 366) }

@@ -240,7 +240,7 @@ fn attempt_of<'a>(
     rt: &HostRuntime,
     files: &Files<'a>,
     outcome: Result<(), DeskFault>,
-    out: &Output<'a>,
+    out: &Output,
 ) -> Attempt {
     let inputs = &files.inputs;
     let ahead = told(
@@ -377,7 +377,7 @@ fn replies_put<'a, R: Threads + Sync>(
     besides: &Besides<'_>,
     scripts: &mut [Input<'a>],
     wanted: Wanted,
-    out: &mut Output<'a>,
+    out: &mut Output,
 ) -> Result<(), DeskFault>
     requires first { IsOfCentury inputs.old.first }
     requires days { (1 ≤ inputs.old.days) × (inputs.old.days ≤ 366) }

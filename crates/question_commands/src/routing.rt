@@ -37,7 +37,7 @@ fn routed<'a>(
     shards: u16,
     changes: &mut Input<'a>,
     scripts: &mut Vec<Input<'a>>,
-    out: &mut Output<'a>,
+    out: &mut Output,
 ) -> Result<(), DeskFault>
     requires shards { 1 ≤ shards }
     requires few { length scripts.old.items ≤ 8 }

@@ -86,7 +86,7 @@ fn shards_answered<'a, R: Threads + Sync, Q: Question>(
     question: &Q,
     inputs: &mut Inputs<Input<'a>, Input<'a>>,
     journals: &mut Vec<Input<'a>>,
-    out: &mut Output<'a>,
+    out: &mut Output,
 ) -> Result<(), ShardFault>
     requires first { IsOfCentury inputs.old.first }
     requires days { (1 ≤ inputs.old.days) × (inputs.old.days ≤ 366) }
@@ -109,7 +109,7 @@ fn shards_audited<'a, R: Threads + Sync>(
     meter: &'a Meter,
     inputs: &mut Inputs<Input<'a>, Input<'a>>,
     journals: &mut Vec<Input<'a>>,
-    out: &mut Output<'a>,
+    out: &mut Output,
 ) -> Result<(), ShardFault>
     requires first { IsOfCentury inputs.old.first }
     requires days { (1 ≤ inputs.old.days) × (inputs.old.days ≤ 366) }
@@ -149,7 +149,7 @@ fn noted<'a>(
     outcome: Result<(), ShardFault>,
     inputs: &Inputs<Input<'a>, Input<'a>>,
     journals: &[Input<'a>],
-    outs: &[&Output<'a>],
+    outs: &[&Output],
 ) -> Result<(), Refusal> {
     match outcome {
         Ok(()) => Ok(()),

@@ -8,7 +8,7 @@ use Rattle.seat_files.specs.declared.streams.Source.{Source}
 use Rattle.seat_files.specs.declared.streams.Source.TheVariants.{Text}
 
 abbrev pub input_failures : Input → ℕ
-input_failures s = s.failures
+input_failures s = s.reads.failures
 
 abbrev pub output_failures : Output → ℕ
 output_failures s = s.failures

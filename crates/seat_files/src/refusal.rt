@@ -7,7 +7,7 @@ ghost use Rattle.seat_shards.specs.Faults.{shard_text, status_of_shards};
 use crate::fault::{CarryKind, Fault, ListKind};
 use crate::journal_file::{JournalFile, is_link};
 use crate::seal_out::SealOut;
-use crate::streams::{Input, Output};
+use crate::streams::{Input, OUTPUT, Output};
 use crate::telling::{ToldName, ToldWords};
 use airline_base::Failures;
 use seat_desk::DeskFault;
@@ -255,14 +255,14 @@ impl Refusal {
     pub fn of_closed_output() -> Refusal
         ensures { result.fault ≡ Fault.Desk DeskFault.Device }
     {
-        Refusal::from(DeskFault::Device).at("standard output", Some(NOT_OPEN))
+        Refusal::from(DeskFault::Device).at(OUTPUT, Some(NOT_OPEN))
     }
 
     /// The fault of standard output where help or the version is written to it.
     pub fn unwritten(error: &io::Error) -> Refusal
         ensures { result.fault ≡ Fault.Desk DeskFault.Device }
     {
-        let refusal = Refusal::from(DeskFault::Device).at("standard output", error.raw_os_error());
+        let refusal = Refusal::from(DeskFault::Device).at(OUTPUT, error.raw_os_error());
         refusal.hushed()
     }
 
@@ -329,7 +329,7 @@ impl Refusal {
     }
 
     /// The same for outputs.
-    pub fn noting_outputs(self, outputs: &[&Output<'_>]) -> Refusal
+    pub fn noting_outputs(self, outputs: &[&Output]) -> Refusal
         ensures { result.fault ≡ self.fault }
     {
         let mut refusal = self;
@@ -392,12 +392,12 @@ impl Refusal {
     }
 
     /// The same for an output.
-    pub fn noting_output(self, output: &Output<'_>) -> Refusal
+    pub fn noting_output(self, output: &Output) -> Refusal
         ensures { result.fault ≡ self.fault }
     {
         match self.fault {
             Fault::Desk(DeskFault::Device) if output.failures() > 0 => {
-                let refusal = self.at(output.name(), output.reason());
+                let refusal = self.at(OUTPUT, output.reason());
                 refusal.hushed()
             }
             _ => self,
@@ -648,7 +648,7 @@ impl From<WordFault> for Refusal {
 pub fn told(
     outcome: Result<(), DeskFault>,
     inputs: &[&Input<'_>],
-    outputs: &[&Output<'_>],
+    outputs: &[&Output],
 ) -> Result<(), Refusal>
     ensures ok { IsOk outcome → IsOk result }
     ensures fault { IfErr outcome (λ fault. IsErrAnd result (λ refusal. refusal.fault ≡ Fault.Desk fault)) }

@@ -1,8 +1,8 @@
 //! What fault lines, replies and notes mean: the command `explain`, and what stands below a fault on a terminal.
+use crate::meaning::{Meaning, meaning_of};
 use crate::undone::Undone;
 use airline_base::{WriteFault, put_all};
 use seat_desk::DeskFault;
-use seat_explanations::{Meaning, meaning_of};
 use seat_files::{Fault, Refusal, standard_output};
 use seat_words::wrong_value;
 use std::alloc::AllocError;

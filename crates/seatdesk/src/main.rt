@@ -2,9 +2,20 @@
 //! It knows the words and the statuses, and nothing of what the commands do.
 #![tactic(auto)]
 
+mod answers;
+mod asked;
+mod behind;
+mod counted;
 mod explain;
+mod explanations;
+mod faults;
+mod meaning;
+mod notes;
+mod replies;
 mod season;
+mod told;
 mod undone;
+mod written;
 
 use clap::error::ErrorKind;
 use command_inputs::meter_of;
@@ -83,16 +94,24 @@ pub fn done_by<'a, T: Threads + Wait + Clock + Sync + Copy + Send + 'static>(
     threads: &T,
     words: &'a [&'a str],
 ) -> io::Result<ExitCode> {
-    let asked = match read_words(rt.alloc(), words) {
-        Ok(asked) => asked,
+    match read_words(rt.alloc(), words) {
+        Ok(asked) => metered(rt, threads, &asked),
         Err(error) => {
             let status = misread(rt, &error);
             tell_of_season(rt, words, &error);
-            return Ok(status);
+            Ok(status)
         }
-    };
-    let meter = staying(rt.alloc(), meter_for(rt, threads, &asked))?;
-    let outcome = carry_out(rt, threads, meter, &asked);
+    }
+}
+
+/// Does what the command line asks for, with a line that says how far it is, and tells why it was not done.
+fn metered<'a, T: Threads + Wait + Clock + Sync + Copy + Send + 'static>(
+    rt: &'a HostRuntime,
+    threads: &T,
+    asked: &CommandLine<'a>,
+) -> io::Result<ExitCode> {
+    let meter = staying(rt.alloc(), meter_for(rt, threads, asked))?;
+    let outcome = carry_out(rt, threads, meter, asked);
     meter.end(rt);
     Ok(match outcome {
         Ok(status) => status,

@@ -1,11 +1,12 @@
 //! The season that a command line names, or the two of `compare` and `carry`: its file, its folder, and whether its journal is there.
 //! It knows nothing of what a season says, or of which words stand for it.
+ghost use Rattle.std.specs.Prelude.{◌≤◌, IfOk, length};
 
 use crate::undone::Undone;
 use crate::{DIFFERS, done_by, misread, refused};
 use progress_meter::Meter;
 use seat_desk::{DeskFault, read_input};
-use seat_files::{Refusal, opened, told};
+use seat_files::{Refusal, opened};
 use seat_season::{
     Around, MOST_SEASON_BYTES, Season, SeasonKind, TextFault, Words, beside_season, folder_of,
     path_of, season_named, season_of, season_table, seasoned_words,
@@ -177,11 +178,14 @@ fn compared_over<'a, T: Threads + Sync>(
 
 /// Over what the words of a command work that has nothing else.
 fn horizon_in<'a>(rt: &HostRuntime, words: &'a [&'a str]) -> Result<Horizon<'a>, Undone> {
-    let line = match read_words(rt.alloc(), words) {
-        Ok(line) => line,
-        Err(error) => return Err(Undone::Word(error)),
-    };
-    match &line.job {
+    match read_words(rt.alloc(), words) {
+        Ok(line) => horizon_of(&line.job),
+        Err(error) => Err(Undone::Word(error)),
+    }
+}
+
+fn horizon_of<'a>(job: &Job<'a>) -> Result<Horizon<'a>, Undone> {
+    match job {
         Job::Cover(asked) => Ok(asked.over),
         _ => Err(Undone::Refused(Refusal::from(WordFault::BadWords))),
     }
@@ -196,13 +200,9 @@ fn in_conflict(rt: &HostRuntime, option: &str) -> Result<clap::Error, AllocError
 }
 
 fn table_of(rt: &HostRuntime, file: &str) -> Result<Table, Refusal> {
-    let mut input = opened(rt, file)?;
-    let text = match read_input(rt.alloc(), &mut input, MOST_SEASON_BYTES) {
+    let text = match season_bytes(rt, file) {
         Ok(text) => text,
-        Err(fault) => {
-            told(Err(fault), &[&input], &[])?;
-            return Err(Refusal::from(fault));
-        }
+        Err(refusal) => return Err(refusal),
     };
     match season_table(rt.alloc(), &text) {
         Ok(table) => Ok(table),
@@ -210,6 +210,20 @@ fn table_of(rt: &HostRuntime, file: &str) -> Result<Table, Refusal> {
             Err(Refusal::of_season(file, SeasonKind::Form { line }, None))
         }
         Err(TextFault::Memory) => Err(Refusal::from(DeskFault::Memory)),
+    }
+}
+
+/// The bytes of a season file.
+fn season_bytes(rt: &HostRuntime, file: &str) -> Result<Vec<u8>, Refusal>
+    ensures { IfOk result (λ text. length text.items ≤ 65536) }
+{
+    let mut input = match opened(rt, file) {
+        Ok(input) => input,
+        Err(refusal) => return Err(refusal),
+    };
+    match read_input(rt.alloc(), &mut input, MOST_SEASON_BYTES) {
+        Ok(text) => Ok(text),
+        Err(fault) => Err(Refusal::from(fault).noting_all(&[&input])),
     }
 }
 
