@@ -4,10 +4,18 @@ use seat_scripts::Besides;
 use seat_words::{WordFault, behind_word};
 
 /// What stands beside an older journal, and beside the journal that goes on from it.
-#[derive(Drop)]
 pub struct Seals {
     pub older: SealFile,
     pub journal: SealFile,
+}
+
+impl Drop for Seals {
+    fn drop(self) {
+        let Seals {
+            older: _older,
+            journal: _journal,
+        } = self;
+    }
 }
 
 impl Seals {

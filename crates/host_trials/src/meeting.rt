@@ -19,7 +19,6 @@ pub enum Holds {
 const MOST_TURNS: u32 = 10_000;
 
 /// Sessions 1 and 2 meet here.
-#[derive(Drop)]
 pub struct Meeting<'a, C> {
     clock: &'a C,
     holds: Holds,
@@ -30,6 +29,21 @@ pub struct Meeting<'a, C> {
     // By number, how often a worker passed before a call and after one.
     passed: [AtomicU32; 9],
     told_wrong: AtomicBool,
+}
+
+impl<C> Drop for Meeting<'_, C> {
+    fn drop(self) {
+        let Meeting {
+            clock: _clock,
+            holds: _holds,
+            one_came: _one_came,
+            two_came: _two_came,
+            two_answered: _two_answered,
+            held_too_long: _held_too_long,
+            passed: _passed,
+            told_wrong: _told_wrong,
+        } = self;
+    }
 }
 
 impl<'a, C: Clock> Meeting<'a, C> {

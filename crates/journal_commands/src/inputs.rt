@@ -17,10 +17,18 @@ use seat_words::{CarryJob, Horizon};
 use std::thread::Threads;
 
 /// The set and the limits of the old season, and of the new one.
-#[derive(Drop)]
 pub(crate) struct Seasons<'a> {
     pub from: Inputs<Input<'a>, Input<'a>>,
     pub to: Inputs<Input<'a>, Input<'a>>,
+}
+
+impl Drop for Seasons<'_> {
+    fn drop(self) {
+        let Seasons {
+            from: _from,
+            to: _to,
+        } = self;
+    }
 }
 
 /// Both, open, the new one first.

@@ -15,10 +15,18 @@ const NO_FILE: &str = "Is no regular file";
 const NO_SHARD: &str = "Leads to a name without the shard's number";
 
 /// The journal whose bookings are carried, under its lock: its seal, and what it has.
-#[derive(Drop)]
 pub(crate) struct Older<'a> {
     pub seal: SealOut<'a>,
     pub journal: Input<'a>,
+}
+
+impl Drop for Older<'_> {
+    fn drop(self) {
+        let Older {
+            seal: _seal,
+            journal: _journal,
+        } = self;
+    }
 }
 
 /// Locks the journal whose bookings are carried, and reads its seal. It must be a regular file, and no run's or host's.
@@ -54,13 +62,22 @@ pub(crate) fn newer_named(rt: &HostRuntime, new: &str) -> Result<(), Refusal> {
 }
 
 /// The new journal under its lock, and its seal.
-#[derive(Drop)]
 pub(crate) struct Newer<'a> {
     pub journal: JournalFile<'a>,
     pub seal: SealOut<'a>,
     /// By what a mark names it: where its name leads from the root, through links, so that it is the same journal by whatever name and from
     /// whatever folder; and where it is of one of several hosts, what names the journals of all of them.
     pub name: String,
+}
+
+impl Drop for Newer<'_> {
+    fn drop(self) {
+        let Newer {
+            journal: _journal,
+            seal: _seal,
+            name: _name,
+        } = self;
+    }
 }
 
 impl<'a> Newer<'a> {

@@ -160,25 +160,50 @@ fn leave(place: &Place<'_>) {
 }
 
 /// Where a run puts its journal, and the seal of it.
-#[derive(Drop)]
 struct Place<'a> {
     journal: JournalFile<'a>,
     seal: SealOut<'a>,
 }
 
+impl Drop for Place<'_> {
+    fn drop(self) {
+        let Place {
+            journal: _journal,
+            seal: _seal,
+        } = self;
+    }
+}
+
 /// What a run reads beside journals.
-#[derive(Drop)]
 struct Texts<'a> {
     inputs: Inputs<Input<'a>, Input<'a>>,
     scripts: Vec<Input<'a>>,
     changes: Input<'a>,
 }
 
+impl Drop for Texts<'_> {
+    fn drop(self) {
+        let Texts {
+            inputs: _inputs,
+            scripts: _scripts,
+            changes: _changes,
+        } = self;
+    }
+}
+
 /// The journals that a run may go on from.
-#[derive(Drop)]
 struct Past<'a> {
     after: Input<'a>,
     resumed: Input<'a>,
+}
+
+impl Drop for Past<'_> {
+    fn drop(self) {
+        let Past {
+            after: _after,
+            resumed: _resumed,
+        } = self;
+    }
 }
 
 fn past_opened<'a>(rt: &HostRuntime, asking: &RunJob<'a>) -> Result<Past<'a>, Refusal> {

@@ -42,11 +42,20 @@ use seat_words::CarryJob;
 use std::thread::Threads;
 
 /// The journals whose bookings are carried, in order, each under its lock: the seals beside them, what these have, and what the journals have.
-#[derive(Drop)]
 struct Olders<'a> {
     seals: Vec<SealOut<'a>>,
     texts: Vec<Option<Items<u8>>>,
     journals: Vec<Input<'a>>,
+}
+
+impl Drop for Olders<'_> {
+    fn drop(self) {
+        let Olders {
+            seals: _seals,
+            texts: _texts,
+            journals: _journals,
+        } = self;
+    }
 }
 
 impl<'a> Olders<'a> {

@@ -54,7 +54,6 @@ impl<K: Hosting, const N: u8> Ledger for Numbered<K, N> {
 }
 
 /// How many lines each session number has. Contracts see the totals, at their numbers.
-#[derive(Drop)]
 pub struct LineCounts<K: Hosting> {
     zero: Book<Numbered<K, 0>>,
     one: Book<Numbered<K, 1>>,
@@ -65,6 +64,22 @@ pub struct LineCounts<K: Hosting> {
     six: Book<Numbered<K, 6>>,
     seven: Book<Numbered<K, 7>>,
     eight: Book<Numbered<K, 8>>,
+}
+
+impl<K: Hosting> Drop for LineCounts<K> {
+    fn drop(self) {
+        let LineCounts {
+            zero: _zero,
+            one: _one,
+            two: _two,
+            three: _three,
+            four: _four,
+            five: _five,
+            six: _six,
+            seven: _seven,
+            eight: _eight,
+        } = self;
+    }
 }
 
 impl<K: Hosting> Model for LineCounts<K> {
@@ -123,9 +138,14 @@ pub enum AnyShare<K: Hosting> {
 }
 
 /// The one share of a session's ledger. Contracts see its number and its amount.
-#[derive(Drop)]
 pub struct Stake<K: Hosting> {
     share: AnyShare<K>,
+}
+
+impl<K: Hosting> Drop for Stake<K> {
+    fn drop(self) {
+        let Stake { share: _share } = self;
+    }
 }
 
 impl<K: Hosting> Model for Stake<K> {
