@@ -10,11 +10,11 @@ use seat_files::{Input, Refusal, opened};
 use seat_words::{Horizon, WordFault, date_word, days_word};
 
 /// The data set and the limit rows, open, and the dates.
-pub fn inputs_of<'a>(
+pub fn inputs_of(
     rt: &HostRuntime,
-    over: &Horizon<'a>,
+    over: &Horizon<'_>,
     days: (Day, u16),
-) -> Result<Inputs<Input<'a>, Input<'a>>, Refusal>
+) -> Result<Inputs<Input, Input>, Refusal>
     ensures first { IfOk result (λ inputs. inputs.first ≡ days.0) }
     ensures days { IfOk result (λ inputs. inputs.days ≡ days.1) }
 {

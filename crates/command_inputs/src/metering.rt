@@ -72,7 +72,7 @@ fn is_listened_to(told: &str) -> bool {
 
 /// What an input gives is counted from here on: the lines of a journal too. A text of the program's own isn't, nor one that is held. Where an input is typed the
 /// meter ends, which would stand in the midst of what is typed.
-pub fn meter_input<'a>(rt: &HostRuntime, meter: &'a Meter, input: &mut Input<'a>, lines: Lines) {
+pub fn meter_input(rt: &HostRuntime, meter: &Meter, input: &mut Input, lines: Lines) {
     if input.name().is_empty() || input.held().is_some() {
         return;
     }
@@ -83,7 +83,7 @@ pub fn meter_input<'a>(rt: &HostRuntime, meter: &'a Meter, input: &mut Input<'a>
 }
 
 /// How many bytes there are to read of a regular file.
-fn size_of(input: &Input<'_>) -> Option<u64> {
+fn size_of(input: &Input) -> Option<u64> {
     match input.metadata() {
         Ok(Some(file)) if file.is_file() => Some(file.len()),
         _ => None,
@@ -91,11 +91,7 @@ fn size_of(input: &Input<'_>) -> Option<u64> {
 }
 
 /// The set and the limits are counted.
-pub fn meter_inputs<'a>(
-    rt: &HostRuntime,
-    meter: &'a Meter,
-    inputs: &mut Inputs<Input<'a>, Input<'a>>,
-)
+pub fn meter_inputs(rt: &HostRuntime, meter: &Meter, inputs: &mut Inputs<Input, Input>)
     ensures first { inputs.new.first ≡ inputs.old.first }
     ensures days { inputs.new.days ≡ inputs.old.days }
 {
@@ -104,7 +100,7 @@ pub fn meter_inputs<'a>(
 }
 
 /// Scripts or journals are counted.
-pub fn meter_each<'a>(rt: &HostRuntime, meter: &'a Meter, inputs: &mut Vec<Input<'a>>, lines: Lines)
+pub fn meter_each(rt: &HostRuntime, meter: &Meter, inputs: &mut Vec<Input>, lines: Lines)
     ensures { length inputs.new.items ≡ length inputs.old.items }
 {
     for input in inputs.iter_mut() {

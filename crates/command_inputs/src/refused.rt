@@ -24,10 +24,10 @@ const MOST_LIST_BYTES: u64 = 2_147_483_647;
 /// Reads the scripts and the list of their refused lines, and refuses another list. What is read of a script from here on is what is left of
 /// it without these lines.
 #[tactic(auto, using(crate::proofs::Sorting::are_cleaned, crate::proofs::Sorting::are_listed, crate::proofs::Sorting::listed_as))]
-pub fn sort_out_as<'a>(
+pub fn sort_out_as(
     rt: &HostRuntime,
-    scripts: &mut Vec<Input<'a>>,
-    list: &mut Input<'a>,
+    scripts: &mut Vec<Input>,
+    list: &mut Input,
 ) -> Result<(), Refusal>
     requires few { length scripts.old.items ≤ 8 }
     ensures each { OnOk result (length scripts.new.items ≡ length scripts.old.items) }
@@ -42,10 +42,10 @@ pub fn sort_out_as<'a>(
 /// Reads the scripts of a run, and has their list put with its journal. What stands in its place is a list too. Where they go on from those
 /// of an earlier run the list that stands there is to have what they are refused for alone, session by session. What is read of a script from
 /// here on is what is left of it.
-pub fn sort_out_into<'a>(
+pub fn sort_out_into(
     rt: &HostRuntime,
-    scripts: &mut Vec<Input<'a>>,
-    list: &mut ListFile<'a>,
+    scripts: &mut Vec<Input>,
+    list: &mut ListFile<'_>,
     goes_on: bool,
 ) -> Result<(), Refusal>
     requires few { length scripts.old.items ≤ 8 }
@@ -59,10 +59,10 @@ pub fn sort_out_into<'a>(
 
 /// The same with what stands there read.
 #[tactic(auto, using(crate::proofs::Sorting::are_listed, crate::proofs::Sorting::are_begun))]
-fn sort_out_behind<'a>(
+fn sort_out_behind(
     rt: &HostRuntime,
-    scripts: &mut Vec<Input<'a>>,
-    list: &mut ListFile<'a>,
+    scripts: &mut Vec<Input>,
+    list: &mut ListFile<'_>,
     found: &[u8],
     goes_on: bool,
 ) -> Result<(), Refusal>
@@ -106,10 +106,7 @@ pub fn tell_refused(rt: &HostRuntime, list: &ListFile<'_>) {
 
 /// Sorts out each script, and answers the rows of each session.
 #[tactic(auto, using(crate::proofs::Sorting::none_sorted))]
-fn sort_out_each<'a>(
-    rt: &HostRuntime,
-    scripts: &mut Vec<Input<'a>>,
-) -> Result<Vec<Vec<u8>>, Refusal>
+fn sort_out_each(rt: &HostRuntime, scripts: &mut Vec<Input>) -> Result<Vec<Vec<u8>>, Refusal>
     requires few { length scripts.old.items ≤ 8 }
     ensures each { OnOk result (length scripts.new.items ≡ length scripts.old.items) }
     ensures sorted { IfOk result (λ sessions. AreSorted scripts.new.items (map (λ rows. rows.items) sessions.items)) }
@@ -128,11 +125,7 @@ fn sort_out_each<'a>(
 
 /// Has what is left of a session's script read in its place, and answers its rows.
 #[tactic(auto, using(crate::proofs::Sorting::is_sorted))]
-fn sort_out_one<'a>(
-    rt: &HostRuntime,
-    script: &mut Input<'a>,
-    session: u8,
-) -> Result<Vec<u8>, Refusal>
+fn sort_out_one(rt: &HostRuntime, script: &mut Input, session: u8) -> Result<Vec<u8>, Refusal>
     ensures { IfOk result (λ rows. IsSorted session script.new rows.items) }
 {
     let bytes = match read_input(rt.alloc(), script, MOST_SCRIPT_BYTES) {
@@ -157,7 +150,7 @@ fn listed(rt: &HostRuntime, sessions: &[Vec<u8>]) -> Result<Vec<u8>, Refusal>
     }
 }
 
-fn list_in<'a>(rt: &HostRuntime, list: &mut Input<'a>) -> Result<Vec<u8>, Refusal>
+fn list_in(rt: &HostRuntime, list: &mut Input) -> Result<Vec<u8>, Refusal>
     ensures whole { IfOk result (λ found. IfSome (input_rest list.old) (λ text. found.items ≡ text)) }
     ensures within { IfOk result (λ found. length found.items < 2 ^ 31) }
 {

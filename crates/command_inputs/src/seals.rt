@@ -39,8 +39,8 @@ impl Seals {
 /// What stands beside both, once they are open. Beside the journal there may have to be a seal.
 pub fn seals_of(
     rt: &HostRuntime,
-    after: &Input<'_>,
-    journal: &Input<'_>,
+    after: &Input,
+    journal: &Input,
     is_sealed: bool,
 ) -> Result<Seals, Refusal> {
     let older = SealFile::beside(rt, after, false)?;

@@ -6,11 +6,11 @@ use seat_files::{Input, Output, Refusal, opened};
 use seat_words::session_file;
 
 /// The script of each session, open. A session without a word has an empty one.
-pub fn scripts_opened<'a>(
+pub fn scripts_opened(
     rt: &HostRuntime,
-    words: &[&'a str],
+    words: &[&str],
     sessions: usize,
-) -> Result<Vec<Input<'a>>, Refusal>
+) -> Result<Vec<Input>, Refusal>
     ensures { IfOk result (λ files. length files.items ≡ sessions) }
 {
     let mut files = Vec::new(rt.alloc());
@@ -23,18 +23,18 @@ pub fn scripts_opened<'a>(
     Ok(files)
 }
 
-fn script_opened<'a>(rt: &HostRuntime, path: Option<&'a str>) -> Result<Input<'a>, Refusal> {
+fn script_opened(rt: &HostRuntime, path: Option<&str>) -> Result<Input, Refusal> {
     match path {
         Some(path) => opened(rt, path),
-        None => Ok(Input::of_text(b"")),
+        None => Ok(Input::of_text(Vec::new(rt.alloc()))),
     }
 }
 
 /// The refusal of a command that reads scripts behind its other inputs, and more behind those.
 pub fn behind(
     outcome: Result<(), Refusal>,
-    scripts: &[Input<'_>],
-    more: &[&Input<'_>],
+    scripts: &[Input],
+    more: &[&Input],
     outputs: &[&Output],
 ) -> Result<(), Refusal> {
     match outcome {

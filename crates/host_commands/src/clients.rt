@@ -44,10 +44,10 @@ impl Clients<Fed> {
 }
 
 /// The file of the host's status, where the words name one. It may not be an input or the journal, which is there, nor have anything but a status.
-pub fn status_named<'a>(
+pub fn status_named(
     rt: &HostRuntime,
-    asked: &ServeJob<'a>,
-    inputs: &Inputs<Input<'a>, Input<'a>>,
+    asked: &ServeJob<'_>,
+    inputs: &Inputs<Input, Input>,
 ) -> Result<Option<StatusFile>, Refusal> {
     let Some(path) = asked.status else {
         return Ok(None);

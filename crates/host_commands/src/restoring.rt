@@ -45,10 +45,10 @@ pub fn recover<'a>(
 }
 
 /// The journal is none of the inputs, nor the file of the answer.
-pub fn pass_guard<'a>(
+pub fn pass_guard(
     rt: &HostRuntime,
-    inputs: &Inputs<Input<'a>, Input<'a>>,
-    journal: &'a str,
+    inputs: &Inputs<Input, Input>,
+    journal: &str,
 ) -> Result<(), Refusal> {
     let guard = Guard::new(rt, journal)?;
     guard.pass(inputs, &[], &[])?;
@@ -58,7 +58,7 @@ pub fn pass_guard<'a>(
 /// The same with the journal locked, which has this path.
 fn recover_locked<'a>(
     rt: &'a HostRuntime,
-    inputs: &mut Inputs<Input<'a>, Input<'a>>,
+    inputs: &mut Inputs<Input, Input>,
     is_said: bool,
     journal: &'a str,
     path: &str,
@@ -111,7 +111,7 @@ pub fn seal_out<'a>(
     rt: &'a HostRuntime,
     journal: &'a str,
     path: &str,
-    inputs: &Inputs<Input<'a>, Input<'a>>,
+    inputs: &Inputs<Input, Input>,
 ) -> Result<SealOut<'a>, Refusal>
     ensures refused { IfErr result (λ refusal. IsTrue (is_of_file refusal.fault)) }
 {
@@ -157,10 +157,10 @@ pub fn tell_kept(rt: &HostRuntime, journal: &str, beside: &BesideFile<'_>) {
 }
 
 /// The fault, of the file that it is of.
-fn refused<'a>(
+fn refused(
     fault: DeskFault,
-    inputs: &Inputs<Input<'a>, Input<'a>>,
-    journal: &'a str,
+    inputs: &Inputs<Input, Input>,
+    journal: &str,
     tape: &TapeFile,
     beside: &BesideFile<'_>,
     out: &Output,

@@ -95,7 +95,7 @@ fn inputs_passed<'a>(
     over: &Horizon<'a>,
     days: (Day, u16),
     journal: &'a str,
-) -> Result<(Inputs<Input<'a>, Input<'a>>, Based), Refusal>
+) -> Result<(Inputs<Input, Input>, Based), Refusal>
     requires first { IsOfCentury days.0 }
     requires days { (1 ≤ days.1) × (days.1 ≤ 366) }
     ensures grid { IfOk result (λ r. IsGridOf r.1.loaded.flights r.1.loaded.grid) }
@@ -115,7 +115,7 @@ fn inputs_passed<'a>(
 fn serve_locked<'a, R: Threads + Wait + Clock + Copy + Send + 'static>(
     rt: &'a HostRuntime,
     waits: &R,
-    inputs: &Inputs<Input<'a>, Input<'a>>,
+    inputs: &Inputs<Input, Input>,
     based: Based,
     said: Option<Day>,
     clients: Clients<Fed>,
@@ -303,7 +303,7 @@ fn serve_opened<R: Threads + Wait + Clock + Copy + Send + 'static, D: Tape + Dro
     clients: Clients<Stream<R>>,
     basis: &Basis,
     sealed: Sealed,
-    input: &mut Input<'_>,
+    input: &mut Input,
     out: &mut Output,
     seals: &mut K,
 ) -> Result<(), (Unserved, D)>

@@ -20,11 +20,11 @@ pub enum Unserved {
 }
 
 /// The refusal that it is.
-pub fn refusal_of<'a>(
+pub fn refusal_of(
     fault: Unserved,
-    journal: &'a str,
+    journal: &str,
     tape: TapeFile,
-    input: &Input<'a>,
+    input: &Input,
     out: &Output,
 ) -> Refusal {
     match fault {
@@ -73,11 +73,11 @@ fn unended(fault: HostedFault, journal: &str, tape: &TapeFile) -> Refusal {
 }
 
 /// Why the journal of a desk on standard input is not ended and sealed.
-fn untalked<'a>(
+fn untalked(
     fault: ServedFault,
-    journal: &'a str,
+    journal: &str,
     tape: TapeFile,
-    input: &Input<'a>,
+    input: &Input,
     out: &Output,
 ) -> Refusal {
     match fault {
@@ -97,7 +97,7 @@ fn untalked<'a>(
 }
 
 /// Why the journal of a feed is not ended and sealed.
-fn unfed<'a>(fault: FedFault, journal: &'a str, tape: &TapeFile, out: &Output) -> Refusal {
+fn unfed(fault: FedFault, journal: &str, tape: &TapeFile, out: &Output) -> Refusal {
     match fault {
         FedFault::Behind => Refusal::from(WordFault::BadBehind),
         FedFault::Broken(StreamFault::Strange(line, number)) => {

@@ -33,7 +33,7 @@ use std::thread::Threads;
 pub fn carry<'a, R: Threads + Sync>(
     rt: &'a HostRuntime,
     threads: &R,
-    meter: &'a Meter,
+    meter: &Meter,
     asked: &CarryJob<'a>,
     from: &Horizon<'a>,
     to: &Horizon<'a>,
@@ -94,10 +94,10 @@ pub fn carry<'a, R: Threads + Sync>(
 fn together<'a, R: Threads + Sync>(
     rt: &'a HostRuntime,
     threads: &R,
-    meter: &'a Meter,
+    meter: &Meter,
     asked: &CarryJob<'a>,
     asking: &CarryAsked<'_>,
-    seasons: &mut Seasons<'a>,
+    seasons: &mut Seasons,
 ) -> Result<bool, Refusal>
     requires from_first { IsOfCentury seasons.old.from.first }
     requires from_days { (1 ≤ seasons.old.from.days) × (seasons.old.from.days ≤ 366) }
@@ -115,10 +115,10 @@ fn together<'a, R: Threads + Sync>(
 fn tried<'a, R: Threads + Sync>(
     rt: &'a HostRuntime,
     threads: &R,
-    meter: &'a Meter,
+    meter: &Meter,
     asked: &CarryJob<'a>,
     asking: &CarryAsked<'_>,
-    seasons: &mut Seasons<'a>,
+    seasons: &mut Seasons,
 ) -> Result<bool, Refusal>
     requires from_first { IsOfCentury seasons.old.from.first }
     requires from_days { (1 ≤ seasons.old.from.days) × (seasons.old.from.days ≤ 366) }
@@ -154,10 +154,10 @@ fn tried<'a, R: Threads + Sync>(
 fn carried<'a, R: Threads + Sync>(
     rt: &'a HostRuntime,
     threads: &R,
-    meter: &'a Meter,
+    meter: &Meter,
     asked: &CarryJob<'a>,
     asking: &CarryAsked<'_>,
-    seasons: &mut Seasons<'a>,
+    seasons: &mut Seasons,
     older: &mut Older<'a>,
     text: &Option<Vec<u8>>,
 ) -> Result<bool, Refusal>
@@ -183,10 +183,10 @@ fn carried<'a, R: Threads + Sync>(
 fn carried_to<'a, R: Threads + Sync>(
     rt: &'a HostRuntime,
     threads: &R,
-    meter: &'a Meter,
+    meter: &Meter,
     asked: &CarryJob<'a>,
     asking: &CarryAsked<'_>,
-    seasons: &mut Seasons<'a>,
+    seasons: &mut Seasons,
     older: &mut Older<'a>,
     text: &Option<Vec<u8>>,
     newer: &mut Newer<'a>,

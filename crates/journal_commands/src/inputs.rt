@@ -17,12 +17,12 @@ use seat_words::{CarryJob, Horizon};
 use std::thread::Threads;
 
 /// The set and the limits of the old season, and of the new one.
-pub(crate) struct Seasons<'a> {
-    pub from: Inputs<Input<'a>, Input<'a>>,
-    pub to: Inputs<Input<'a>, Input<'a>>,
+pub(crate) struct Seasons {
+    pub from: Inputs<Input, Input>,
+    pub to: Inputs<Input, Input>,
 }
 
-impl Drop for Seasons<'_> {
+impl Drop for Seasons {
     fn drop(self) {
         let Seasons {
             from: _from,
@@ -38,7 +38,7 @@ pub(crate) fn seasons_of<'a>(
     from_days: (Day, u16),
     to: &Horizon<'a>,
     to_days: (Day, u16),
-) -> Result<Seasons<'a>, Refusal>
+) -> Result<Seasons, Refusal>
     ensures from_first { IfOk result (λ s. s.from.first ≡ from_days.0) }
     ensures from_days { IfOk result (λ s. s.from.days ≡ from_days.1) }
     ensures to_first { IfOk result (λ s. s.to.first ≡ to_days.0) }
@@ -56,13 +56,13 @@ pub(crate) fn seasons_of<'a>(
 }
 
 /// What a carry of a journal makes of these seasons, with what is read counted.
-pub(crate) fn made<'a, R: Threads + Sync>(
+pub(crate) fn made<R: Threads + Sync>(
     rt: &HostRuntime,
     threads: &R,
-    meter: &'a Meter,
+    meter: &Meter,
     asked: &CarryAsked<'_>,
-    seasons: &mut Seasons<'a>,
-    journal: &mut Input<'a>,
+    seasons: &mut Seasons,
+    journal: &mut Input,
     beside: &Beside<'_>,
 ) -> Result<Carriage, CarryFault>
     requires from_first { IsOfCentury seasons.old.from.first }
@@ -87,11 +87,11 @@ pub(crate) fn made<'a, R: Threads + Sync>(
 }
 
 /// Why nothing is carried, of the file that it is of; or the lines of the legs that have too few seats.
-pub(crate) fn unmade<'a>(
+pub(crate) fn unmade(
     fault: CarryFault,
-    seasons: &Seasons<'a>,
-    journal: &Input<'a>,
-    asked: &CarryJob<'a>,
+    seasons: &Seasons,
+    journal: &Input,
+    asked: &CarryJob<'_>,
 ) -> Result<Items<u8>, Refusal> {
     match fault {
         CarryFault::Over(lines) => Ok(lines),
@@ -106,7 +106,7 @@ pub(crate) fn unmade<'a>(
     }
 }
 
-fn of_season<'a>(fault: SeasonFault, seasons: &Seasons<'a>, journal: &Input<'a>) -> Refusal {
+fn of_season(fault: SeasonFault, seasons: &Seasons, journal: &Input) -> Refusal {
     Refusal::from(fault.shown())
         .noting_all(&[&seasons.to.set, &seasons.to.limits])
         .noting_all(&[&seasons.from.set, &seasons.from.limits])
@@ -114,11 +114,11 @@ fn of_season<'a>(fault: SeasonFault, seasons: &Seasons<'a>, journal: &Input<'a>)
 }
 
 /// The same of several journals.
-pub(crate) fn unmade_of<'a>(
+pub(crate) fn unmade_of(
     fault: CarryFault,
-    seasons: &Seasons<'a>,
-    journals: &[Input<'a>],
-    asked: &CarryJob<'a>,
+    seasons: &Seasons,
+    journals: &[Input],
+    asked: &CarryJob<'_>,
 ) -> Result<Items<u8>, Refusal> {
     match fault {
         CarryFault::Over(lines) => Ok(lines),

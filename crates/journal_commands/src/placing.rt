@@ -17,7 +17,7 @@ const NO_SHARD: &str = "Leads to a name without the shard's number";
 /// The journal whose bookings are carried, under its lock: its seal, and what it has.
 pub(crate) struct Older<'a> {
     pub seal: SealOut<'a>,
-    pub journal: Input<'a>,
+    pub journal: Input,
 }
 
 impl Drop for Older<'_> {
@@ -33,7 +33,7 @@ impl Drop for Older<'_> {
 pub(crate) fn older_locked<'a>(
     rt: &'a HostRuntime,
     asked: &CarryJob<'a>,
-    seasons: &Seasons<'a>,
+    seasons: &Seasons,
 ) -> Result<(Older<'a>, Option<Vec<u8>>), Refusal> {
     let files = files_taken(
         rt,
@@ -96,7 +96,7 @@ pub(crate) fn newer_locked<'a>(
     rt: &'a HostRuntime,
     asked: &CarryJob<'a>,
     part: Option<Part>,
-    seasons: &Seasons<'a>,
+    seasons: &Seasons,
     older: &Older<'a>,
 ) -> Result<Newer<'a>, Refusal> {
     let more = [&seasons.to.set, &seasons.to.limits, &older.journal];
@@ -108,8 +108,8 @@ pub(crate) fn newer_among<'a>(
     rt: &'a HostRuntime,
     asked: &CarryJob<'a>,
     part: Option<Part>,
-    seasons: &Seasons<'a>,
-    olders: &[Input<'a>],
+    seasons: &Seasons,
+    olders: &[Input],
 ) -> Result<Newer<'a>, Refusal> {
     let more = [&seasons.to.set, &seasons.to.limits];
     newer_beside(rt, asked, part, seasons, olders, &more)
@@ -119,9 +119,9 @@ fn newer_beside<'a>(
     rt: &'a HostRuntime,
     asked: &CarryJob<'a>,
     part: Option<Part>,
-    seasons: &Seasons<'a>,
-    olders: &[Input<'a>],
-    more: &[&Input<'a>],
+    seasons: &Seasons,
+    olders: &[Input],
+    more: &[&Input],
 ) -> Result<Newer<'a>, Refusal> {
     let guard = Guard::new(rt, asked.new)?;
     guard.pass(&seasons.from, olders, more)?;

@@ -35,7 +35,7 @@ use std::thread::Threads;
 pub fn run<'a, T: Threads + Wait + Sync>(
     rt: &'a HostRuntime,
     threads: &T,
-    meter: &'a Meter,
+    meter: &Meter,
     asking: &RunJob<'a>,
 ) -> Result<(), Refusal> {
     let over = &asking.over;
@@ -75,8 +75,8 @@ fn run_over<'a, T: Threads + Wait + Sync>(
     rt: &'a HostRuntime,
     threads: &T,
     sale: &Sale<'a, '_>,
-    texts: &mut Texts<'a>,
-    past: &mut Past<'a>,
+    texts: &mut Texts,
+    past: &mut Past,
 ) -> Result<(), Refusal>
     requires first { IsOfCentury texts.old.inputs.first }
     requires days { (1 ≤ texts.old.inputs.days) × (texts.old.inputs.days ≤ 366) }
@@ -99,8 +99,8 @@ fn sell_sorted<'a, T: Threads + Wait + Sync>(
     rt: &'a HostRuntime,
     threads: &T,
     sale: &Sale<'a, '_>,
-    texts: &mut Texts<'a>,
-    past: &mut Past<'a>,
+    texts: &mut Texts,
+    past: &mut Past,
     place: &mut Place<'a>,
 ) -> Result<(), Refusal>
     requires first { IsOfCentury texts.old.inputs.first }
@@ -117,8 +117,8 @@ fn sell_sorted<'a, T: Threads + Wait + Sync>(
 fn begin_list<'a>(
     rt: &HostRuntime,
     sale: &Sale<'a, '_>,
-    texts: &mut Texts<'a>,
-    past: &Past<'a>,
+    texts: &mut Texts,
+    past: &Past,
     place: &mut Place<'a>,
 ) -> Result<(), Refusal>
     requires few { length texts.old.scripts.items ≤ 8 }
@@ -175,13 +175,13 @@ impl Drop for Place<'_> {
 }
 
 /// What a run reads beside journals.
-struct Texts<'a> {
-    inputs: Inputs<Input<'a>, Input<'a>>,
-    scripts: Vec<Input<'a>>,
-    changes: Input<'a>,
+struct Texts {
+    inputs: Inputs<Input, Input>,
+    scripts: Vec<Input>,
+    changes: Input,
 }
 
-impl Drop for Texts<'_> {
+impl Drop for Texts {
     fn drop(self) {
         let Texts {
             inputs: _inputs,
@@ -192,12 +192,12 @@ impl Drop for Texts<'_> {
 }
 
 /// The journals that a run may go on from.
-struct Past<'a> {
-    after: Input<'a>,
-    resumed: Input<'a>,
+struct Past {
+    after: Input,
+    resumed: Input,
 }
 
-impl Drop for Past<'_> {
+impl Drop for Past {
     fn drop(self) {
         let Past {
             after: _after,
@@ -206,14 +206,14 @@ impl Drop for Past<'_> {
     }
 }
 
-fn past_opened<'a>(rt: &HostRuntime, asking: &RunJob<'a>) -> Result<Past<'a>, Refusal> {
+fn past_opened(rt: &HostRuntime, asking: &RunJob<'_>) -> Result<Past, Refusal> {
     let after = opened_or(rt, asking.after, &NO_LINES)?;
     let resumed = opened_or(rt, asking.resume, &NO_LINES)?;
     Ok(Past { after, resumed })
 }
 
 /// Whether the older journal is the very file whose scripts have grown: there would be no line of theirs.
-fn is_one_journal(past: &Past<'_>) -> Result<bool, Refusal> {
+fn is_one_journal(past: &Past) -> Result<bool, Refusal> {
     let resumed = match past.resumed.metadata() {
         Ok(Some(resumed)) => resumed,
         Ok(None) => return Ok(false),
@@ -231,8 +231,8 @@ fn is_one_journal(past: &Past<'_>) -> Result<bool, Refusal> {
 fn locked_out<'a>(
     rt: &'a HostRuntime,
     asking: &RunJob<'a>,
-    texts: &Texts<'a>,
-    past: &Past<'a>,
+    texts: &Texts,
+    past: &Past,
 ) -> Result<Place<'a>, Refusal> {
     let scripts = texts.scripts.as_slice();
     let guard = Guard::new(rt, asking.journal)?;
@@ -263,8 +263,8 @@ fn sell<'a, T: Threads + Wait + Sync>(
     rt: &'a HostRuntime,
     threads: &T,
     sale: &Sale<'a, '_>,
-    texts: &mut Texts<'a>,
-    past: &mut Past<'a>,
+    texts: &mut Texts,
+    past: &mut Past,
     place: &mut Place<'a>,
 ) -> Result<(), Refusal>
     requires first { IsOfCentury texts.old.inputs.first }
@@ -298,8 +298,8 @@ fn sell_beside<'a, T: Threads + Wait + Sync>(
     rt: &'a HostRuntime,
     threads: &T,
     sale: &Sale<'a, '_>,
-    texts: &mut Texts<'a>,
-    past: &mut Past<'a>,
+    texts: &mut Texts,
+    past: &mut Past,
     seals: &Seals,
     older: SealEntry,
     place: &mut Place<'a>,
@@ -337,11 +337,7 @@ struct Sale<'a, 'b> {
 }
 
 /// What the command came to, of whichever input it is refused for.
-fn sold<'a>(
-    outcome: Result<(), DeskFault>,
-    texts: &Texts<'a>,
-    past: &Past<'a>,
-) -> Result<(), Refusal> {
+fn sold(outcome: Result<(), DeskFault>, texts: &Texts, past: &Past) -> Result<(), Refusal> {
     let inputs = &texts.inputs;
     let ahead = told(
         outcome,
@@ -355,7 +351,7 @@ fn sold<'a>(
 fn tell_sold<'a>(
     rt: &HostRuntime,
     sale: &Sale<'a, '_>,
-    texts: &Texts<'a>,
+    texts: &Texts,
     seals: &Seals,
     place: &Place<'a>,
     out: &Heard,
@@ -376,8 +372,8 @@ fn unsold<'a>(
     rt: &HostRuntime,
     sale: &Sale<'a, '_>,
     refusal: Refusal,
-    texts: &Texts<'a>,
-    past: &Past<'a>,
+    texts: &Texts,
+    past: &Past,
     seals: &Seals,
     place: &mut Place<'a>,
     out: &Heard,
@@ -398,8 +394,8 @@ fn booked<'a, T: Threads + Wait + Sync>(
     rt: &'a HostRuntime,
     threads: &T,
     sale: &Sale<'a, '_>,
-    texts: &mut Texts<'a>,
-    past: &mut Past<'a>,
+    texts: &mut Texts,
+    past: &mut Past,
     besides: &Besides<'_>,
     older: SealEntry,
     place: &mut Place<'a>,
@@ -431,8 +427,8 @@ fn gone_on<'a, T: Threads + Wait + Sync>(
     rt: &'a HostRuntime,
     threads: &T,
     sale: &Sale<'a, '_>,
-    texts: &mut Texts<'a>,
-    past: &mut Past<'a>,
+    texts: &mut Texts,
+    past: &mut Past,
     besides: &Besides<'_>,
     older: SealEntry,
     place: &mut Place<'a>,
@@ -472,8 +468,8 @@ fn begun<'a, T: Threads + Wait + Sync>(
     rt: &'a HostRuntime,
     threads: &T,
     sale: &Sale<'a, '_>,
-    texts: &mut Texts<'a>,
-    after: &mut Input<'a>,
+    texts: &mut Texts,
+    after: &mut Input,
     beside: &Beside<'_>,
     older: SealEntry,
     place: &mut Place<'a>,
@@ -507,7 +503,7 @@ fn begun<'a, T: Threads + Wait + Sync>(
 }
 
 /// What both ways read is counted.
-fn meter_texts<'a>(rt: &HostRuntime, meter: &'a Meter, texts: &mut Texts<'a>)
+fn meter_texts(rt: &HostRuntime, meter: &Meter, texts: &mut Texts)
     ensures first { texts.new.inputs.first ≡ texts.old.inputs.first }
     ensures days { texts.new.inputs.days ≡ texts.old.inputs.days }
     ensures scripts { length texts.new.scripts.items ≡ length texts.old.scripts.items }
@@ -528,11 +524,7 @@ fn older_in(place: &Place<'_>) -> Result<SealEntry, Refusal> {
 }
 
 /// Whether what OUT and its seal have is to be kept: where the run does not go on from it. Under which names is decided here.
-fn keeps_both<'a>(
-    rt: &HostRuntime,
-    past: &Past<'a>,
-    place: &mut Place<'a>,
-) -> Result<bool, Refusal> {
+fn keeps_both(rt: &HostRuntime, past: &Past, place: &mut Place<'_>) -> Result<bool, Refusal> {
     let journal = &place.journal;
     match are_gone_on_from(past, journal) {
         Ok(true) => return Ok(false),
@@ -552,7 +544,7 @@ fn noting_place<'a>(
     rt: &HostRuntime,
     asking: &RunJob<'a>,
     refusal: Refusal,
-    past: &Past<'a>,
+    past: &Past,
     place: &mut Place<'a>,
 ) -> Result<(), Refusal> {
     if !place.journal.is_put() {
@@ -581,7 +573,7 @@ fn lines_ahead<'a>(
     rt: &HostRuntime,
     asking: &RunJob<'a>,
     given: Option<u32>,
-    after: &Input<'a>,
+    after: &Input,
     place: &mut Place<'a>,
 ) -> u64 {
     if asking.resume.is_none() {
@@ -605,11 +597,11 @@ fn lines_sealed(place: &Place<'_>) -> Option<u32> {
 }
 
 /// How many lines a journal has that a run went on from, which may be the one that had the name of the new one.
-fn lines_of<'a>(
+fn lines_of(
     rt: &HostRuntime,
     path: Option<&str>,
-    input: &Input<'a>,
-    journal: &mut JournalFile<'a>,
+    input: &Input,
+    journal: &mut JournalFile<'_>,
 ) -> Result<u64, Refusal> {
     let Some(path) = path else {
         return Ok(0);
@@ -626,11 +618,7 @@ fn lines_of<'a>(
 }
 
 /// Opens the journals once more that are regular files: the name may lead to another file by now.
-fn open_past_again<'a>(
-    rt: &HostRuntime,
-    asking: &RunJob<'a>,
-    past: &mut Past<'a>,
-) -> Result<(), Refusal> {
+fn open_past_again(rt: &HostRuntime, asking: &RunJob<'_>, past: &mut Past) -> Result<(), Refusal> {
     if is_regular(&past.after)? {
         past.after = opened_or(rt, asking.after, &NO_LINES)?;
     }
@@ -640,7 +628,7 @@ fn open_past_again<'a>(
     Ok(())
 }
 
-fn is_regular(input: &Input<'_>) -> Result<bool, Refusal> {
+fn is_regular(input: &Input) -> Result<bool, Refusal> {
     match input.metadata() {
         Ok(Some(file)) => Ok(file.is_file()),
         Ok(None) => Ok(false),
@@ -649,7 +637,7 @@ fn is_regular(input: &Input<'_>) -> Result<bool, Refusal> {
 }
 
 /// Whether one of the older journals is the very file that the new one is put into.
-fn are_gone_on_from<'a>(past: &Past<'a>, journal: &JournalFile<'a>) -> Result<bool, Refusal> {
+fn are_gone_on_from(past: &Past, journal: &JournalFile<'_>) -> Result<bool, Refusal> {
     match is_gone_on_from(&past.after, journal) {
         Ok(false) => is_gone_on_from(&past.resumed, journal),
         found => found,
@@ -657,7 +645,7 @@ fn are_gone_on_from<'a>(past: &Past<'a>, journal: &JournalFile<'a>) -> Result<bo
 }
 
 /// Whether the older journal is the very file that the new one is put into.
-fn is_gone_on_from<'a>(after: &Input<'a>, journal: &JournalFile<'a>) -> Result<bool, Refusal> {
+fn is_gone_on_from(after: &Input, journal: &JournalFile<'_>) -> Result<bool, Refusal> {
     let out = match journal.metadata() {
         Ok(Some(out)) => out,
         Ok(None) => return Ok(false),

@@ -45,7 +45,7 @@ use std::thread::Threads;
 struct Olders<'a> {
     seals: Vec<SealOut<'a>>,
     texts: Vec<Option<Items<u8>>>,
-    journals: Vec<Input<'a>>,
+    journals: Vec<Input>,
 }
 
 impl Drop for Olders<'_> {
@@ -70,10 +70,10 @@ impl<'a> Olders<'a> {
 pub(crate) fn carried_together<'a, R: Threads + Sync>(
     rt: &'a HostRuntime,
     threads: &R,
-    meter: &'a Meter,
+    meter: &Meter,
     asked: &CarryJob<'a>,
     asking: &CarryAsked<'_>,
-    seasons: &mut Seasons<'a>,
+    seasons: &mut Seasons,
 ) -> Result<bool, Refusal>
     requires from_first { IsOfCentury seasons.old.from.first }
     requires from_days { (1 ≤ seasons.old.from.days) × (seasons.old.from.days ≤ 366) }
@@ -98,7 +98,7 @@ pub(crate) fn carried_together<'a, R: Threads + Sync>(
 fn lock_each<'a>(
     rt: &'a HostRuntime,
     asked: &CarryJob<'a>,
-    seasons: &Seasons<'a>,
+    seasons: &Seasons,
     olders: &mut Olders<'a>,
 ) -> Result<(), Refusal>
     requires texts { vec_len olders.old.texts ≡ vec_len olders.old.seals }
@@ -121,7 +121,7 @@ fn lock_each<'a>(
 fn lock_all<'a>(
     rt: &'a HostRuntime,
     names: &[&'a str],
-    seasons: &Seasons<'a>,
+    seasons: &Seasons,
     olders: &mut Olders<'a>,
 ) -> Result<(), Refusal>
     ensures seals { OnOk result (vec_len olders.new.seals ≡ vec_len olders.old.seals + length names.now) }
@@ -145,7 +145,7 @@ fn lock_all<'a>(
 fn lock_one<'a>(
     rt: &'a HostRuntime,
     name: &'a str,
-    seasons: &Seasons<'a>,
+    seasons: &Seasons,
     olders: &mut Olders<'a>,
 ) -> Result<(), Refusal>
     ensures seals { OnOk result (vec_len olders.new.seals ≡ vec_len olders.old.seals + 1) }
@@ -175,9 +175,9 @@ fn lock_one<'a>(
 fn open_locked<'a>(
     rt: &'a HostRuntime,
     name: &'a str,
-    seasons: &Seasons<'a>,
-    journals: &[Input<'a>],
-) -> Result<(SealOut<'a>, Input<'a>), Refusal> {
+    seasons: &Seasons,
+    journals: &[Input],
+) -> Result<(SealOut<'a>, Input), Refusal> {
     let more = [&seasons.to.set, &seasons.to.limits];
     let files = files_taken(rt, &seasons.from, journals, &more)?;
     SealOut::open(rt, name, files.as_slice())
@@ -198,7 +198,7 @@ fn make_room(olders: &mut Olders<'_>) -> Result<(), Memory>
 }
 
 /// Adds one that is locked, for which there is room.
-fn add<'a>(olders: &mut Olders<'a>, seal: SealOut<'a>, text: Option<Items<u8>>, journal: Input<'a>)
+fn add<'a>(olders: &mut Olders<'a>, seal: SealOut<'a>, text: Option<Items<u8>>, journal: Input)
     requires room { vec_len olders.old.seals < vec_capacity olders.old.seals }
     requires room_of_text { vec_len olders.old.texts < vec_capacity olders.old.texts }
     requires room_of_journal { vec_len olders.old.journals < vec_capacity olders.old.journals }
@@ -215,10 +215,10 @@ fn add<'a>(olders: &mut Olders<'a>, seal: SealOut<'a>, text: Option<Items<u8>>, 
 fn carried_locked<'a, R: Threads + Sync>(
     rt: &'a HostRuntime,
     threads: &R,
-    meter: &'a Meter,
+    meter: &Meter,
     asked: &CarryJob<'a>,
     asking: &CarryAsked<'_>,
-    seasons: &mut Seasons<'a>,
+    seasons: &mut Seasons,
     olders: &mut Olders<'a>,
 ) -> Result<bool, Refusal>
     requires from_first { IsOfCentury seasons.old.from.first }
@@ -246,10 +246,10 @@ fn carried_locked<'a, R: Threads + Sync>(
 fn carried_to<'a, R: Threads + Sync>(
     rt: &'a HostRuntime,
     threads: &R,
-    meter: &'a Meter,
+    meter: &Meter,
     asked: &CarryJob<'a>,
     asking: &CarryAsked<'_>,
-    seasons: &mut Seasons<'a>,
+    seasons: &mut Seasons,
     olders: &mut Olders<'a>,
     newer: &mut Newer<'a>,
 ) -> Result<bool, Refusal>
@@ -289,10 +289,10 @@ fn carried_to<'a, R: Threads + Sync>(
 pub(crate) fn tried_together<'a, R: Threads + Sync>(
     rt: &'a HostRuntime,
     threads: &R,
-    meter: &'a Meter,
+    meter: &Meter,
     asked: &CarryJob<'a>,
     asking: &CarryAsked<'_>,
-    seasons: &mut Seasons<'a>,
+    seasons: &mut Seasons,
 ) -> Result<bool, Refusal>
     requires from_first { IsOfCentury seasons.old.from.first }
     requires from_days { (1 ≤ seasons.old.from.days) × (seasons.old.from.days ≤ 366) }
@@ -334,10 +334,10 @@ pub(crate) fn tried_together<'a, R: Threads + Sync>(
 }
 
 /// Opens the journals of these names, and reads the seals beside them.
-fn open_all<'a>(
+fn open_all(
     rt: &HostRuntime,
-    names: &[&'a str],
-    journals: &mut Vec<Input<'a>>,
+    names: &[&str],
+    journals: &mut Vec<Input>,
     seals: &mut Vec<SealFile>,
 ) -> Result<(), Refusal>
     ensures journals { OnOk result (vec_len journals.new ≡ vec_len journals.old + length names.now) }
@@ -357,10 +357,10 @@ fn open_all<'a>(
 }
 
 /// Opens one more, and reads the seal beside it.
-fn open_one<'a>(
+fn open_one(
     rt: &HostRuntime,
-    name: &'a str,
-    journals: &mut Vec<Input<'a>>,
+    name: &str,
+    journals: &mut Vec<Input>,
     seals: &mut Vec<SealFile>,
 ) -> Result<(), Refusal>
     ensures journals { OnOk result (vec_len journals.new ≡ vec_len journals.old + 1) }
@@ -379,13 +379,13 @@ fn open_one<'a>(
 }
 
 /// What carries the bookings of the journals that are locked, whose seals have these bytes.
-fn made_locked<'a, R: Threads + Sync>(
+fn made_locked<R: Threads + Sync>(
     rt: &HostRuntime,
     threads: &R,
-    meter: &'a Meter,
+    meter: &Meter,
     asking: &CarryAsked<'_>,
-    seasons: &mut Seasons<'a>,
-    journals: &mut Vec<Input<'a>>,
+    seasons: &mut Seasons,
+    journals: &mut Vec<Input>,
     texts: &[Option<Items<u8>>],
 ) -> Result<JoinedCarriage, JoinFault>
     requires from_first { IsOfCentury seasons.old.from.first }
@@ -416,13 +416,13 @@ fn made_locked<'a, R: Threads + Sync>(
 }
 
 /// What carries the bookings of the journals that are open, beside which this stands.
-fn made_open<'a, R: Threads + Sync>(
+fn made_open<R: Threads + Sync>(
     rt: &HostRuntime,
     threads: &R,
-    meter: &'a Meter,
+    meter: &Meter,
     asking: &CarryAsked<'_>,
-    seasons: &mut Seasons<'a>,
-    journals: &mut Vec<Input<'a>>,
+    seasons: &mut Seasons,
+    journals: &mut Vec<Input>,
     seals: &[SealFile],
 ) -> Result<JoinedCarriage, JoinFault>
     requires from_first { IsOfCentury seasons.old.from.first }
@@ -448,13 +448,13 @@ fn made_open<'a, R: Threads + Sync>(
 }
 
 /// What carries their bookings, with what is read counted.
-fn made_together<'a, R: Threads + Sync>(
+fn made_together<R: Threads + Sync>(
     rt: &HostRuntime,
     threads: &R,
-    meter: &'a Meter,
+    meter: &Meter,
     asking: &CarryAsked<'_>,
-    seasons: &mut Seasons<'a>,
-    journals: &mut Vec<Input<'a>>,
+    seasons: &mut Seasons,
+    journals: &mut Vec<Input>,
     besides: &[Beside<'_>],
 ) -> Result<JoinedCarriage, JoinFault>
     requires from_first { IsOfCentury seasons.old.from.first }
@@ -700,11 +700,11 @@ fn failed_together<'a>(olders: &Olders<'a>, newer: &Newer<'a>) -> Refusal {
 }
 
 /// Why nothing is carried, of the file that it is of; or the lines of the legs that have too few seats.
-fn unjoined<'a>(
+fn unjoined(
     fault: JoinFault,
-    seasons: &Seasons<'a>,
-    journals: &[Input<'a>],
-    asked: &CarryJob<'a>,
+    seasons: &Seasons,
+    journals: &[Input],
+    asked: &CarryJob<'_>,
 ) -> Result<Items<u8>, Refusal> {
     match fault {
         JoinFault::Carry(fault) => unmade_of(fault, seasons, journals, asked),

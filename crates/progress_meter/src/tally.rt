@@ -1,39 +1,37 @@
 //! What is counted of one input.
 use crate::course::{Course, Lines, Told};
-use crate::gauge::Gauge;
 use crate::meter::Meter;
 
-/// The count of one input, on a gauge or on none.
+/// The count of one input, on a meter's gauge or on none.
 #[derive(Drop)]
-pub struct Tally<'m> {
-    gauge: Option<&'m Gauge>,
+pub struct Tally {
+    meter: Meter,
     course: Course,
 }
 
-impl<'m> Tally<'m> {
+impl Tally {
     /// Nothing is counted.
-    pub fn none() -> Tally<'m> {
+    pub fn none() -> Tally {
         Tally {
-            gauge: None,
+            meter: Meter::none(),
             course: Course::begun(Lines::Uncounted),
         }
     }
 
     /// An input is to be read, of so many bytes where that is known.
-    pub fn new(meter: &'m Meter, size: Option<u64>, lines: Lines) -> Tally<'m> {
-        let gauge = meter.gauge();
-        if let Some(gauge) = gauge {
+    pub fn new(meter: &Meter, size: Option<u64>, lines: Lines) -> Tally {
+        if let Some(gauge) = meter.gauge() {
             gauge.expect(size);
         }
         Tally {
-            gauge,
+            meter: meter.shared(),
             course: Course::begun(lines),
         }
     }
 
     /// A read gave these bytes. One that gave none is the end of its input, once.
     pub fn count(&mut self, bytes: &[u8]) {
-        let Some(gauge) = self.gauge else {
+        let Some(gauge) = self.meter.gauge() else {
             return;
         };
         match self.course.read(bytes) {

@@ -22,11 +22,11 @@ const MOST_PARTNER_BYTES: u64 = 65_536;
 
 /// What a partner is told of each segment, or of what changed behind the lines of an older journal. The partner's thresholds are read first, and then
 /// the older journal.
-pub fn avs<'a, R: Threads + Sync>(
+pub fn avs<R: Threads + Sync>(
     rt: &HostRuntime,
     threads: &R,
-    meter: &'a Meter,
-    asked: &AvsJob<'a>,
+    meter: &Meter,
+    asked: &AvsJob<'_>,
 ) -> Result<(), Refusal> {
     let over = &asked.horizon;
     let days = days_of(over.first, over.days)?;
@@ -68,7 +68,7 @@ pub fn avs<'a, R: Threads + Sync>(
 fn avs_since<'a, R: Threads + Sync>(
     rt: &HostRuntime,
     threads: &R,
-    meter: &'a Meter,
+    meter: &Meter,
     asked: &AvsJob<'a>,
     days: (Day, u16),
     wanted: &Asked<'_>,

@@ -14,11 +14,11 @@ use std::thread::Threads;
 
 /// The changes that bring the limits to those that are wanted, as far as they go; where one falls short, a line on standard error says so. The wanted
 /// limits are read ahead of all else.
-pub fn changes<'a, R: Threads + Sync>(
+pub fn changes<R: Threads + Sync>(
     rt: &HostRuntime,
     threads: &R,
-    meter: &'a Meter,
-    asked: &ChangesJob<'a>,
+    meter: &Meter,
+    asked: &ChangesJob<'_>,
 ) -> Result<(), Refusal> {
     let over = &asked.over;
     let days = days_of(over.first, over.days)?;

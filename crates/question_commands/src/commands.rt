@@ -26,7 +26,7 @@ pub fn ladder(rt: &HostRuntime) -> Result<(), Refusal> {
     told(outcome, &[&input], &[&out])
 }
 
-pub fn check<'a>(rt: &HostRuntime, meter: &'a Meter, set: &'a str) -> Result<(), Refusal> {
+pub fn check(rt: &HostRuntime, meter: &Meter, set: &str) -> Result<(), Refusal> {
     let mut set = taken(rt, set)?;
     meter_input(rt, meter, &mut set, Lines::Uncounted);
     let mut out = metered_output(rt, meter);
@@ -43,11 +43,11 @@ pub fn season(rt: &HostRuntime, set: &str, limits: &str) -> Result<(), Refusal> 
 }
 
 /// What a desk is told of a journal, of its first line or a later one on.
-pub fn told_of<'a, R: Threads + Sync>(
+pub fn told_of<R: Threads + Sync>(
     rt: &HostRuntime,
     threads: &R,
-    meter: &'a Meter,
-    asked: &ToldJob<'a>,
+    meter: &Meter,
+    asked: &ToldJob<'_>,
 ) -> Result<(), Refusal> {
     let over = &asked.over;
     let days = days_of(over.first, over.days)?;
@@ -71,7 +71,7 @@ pub fn told_of<'a, R: Threads + Sync>(
 pub fn why<'a, R: Threads + Sync>(
     rt: &HostRuntime,
     threads: &R,
-    meter: &'a Meter,
+    meter: &Meter,
     over: &Horizon<'a>,
     line: &str,
     is_open: bool,
@@ -108,7 +108,7 @@ pub struct Looked {
 pub fn audit<'a, R: Threads + Sync>(
     rt: &HostRuntime,
     threads: &R,
-    meter: &'a Meter,
+    meter: &Meter,
     over: &Horizon<'a>,
     days: (Day, u16),
     journal: &'a str,
@@ -146,7 +146,7 @@ pub fn audit<'a, R: Threads + Sync>(
 fn audited_once<'a, R: Threads + Sync>(
     rt: &HostRuntime,
     threads: &R,
-    meter: &'a Meter,
+    meter: &Meter,
     over: &Horizon<'a>,
     days: &(Day, u16),
     journal: &'a str,
@@ -180,9 +180,9 @@ fn audited_once<'a, R: Threads + Sync>(
 
 /// What a question reads, open: a journal, or one without lines, with what stands beside it.
 #[derive(Drop)]
-struct Texts<'a> {
-    inputs: Inputs<Input<'a>, Input<'a>>,
-    journal: Input<'a>,
+struct Texts {
+    inputs: Inputs<Input, Input>,
+    journal: Input,
     seal: SealFile,
 }
 
@@ -192,7 +192,7 @@ fn texts_opened<'a>(
     days: &(Day, u16),
     journal: Option<&'a str>,
     is_sealed: bool,
-) -> Result<Texts<'a>, Refusal>
+) -> Result<Texts, Refusal>
     ensures first { IfOk result (λ texts. texts.inputs.first ≡ days.now.0) }
     ensures days { IfOk result (λ texts. texts.inputs.days ≡ days.now.1) }
 {
@@ -210,10 +210,10 @@ fn texts_opened<'a>(
 }
 
 /// What a question came to over these. A seal that denies an open journal, or one that was replaced since it was opened, may be another's.
-fn answer_of<'a>(
+fn answer_of(
     rt: &HostRuntime,
-    inputs: &Inputs<Input<'a>, Input<'a>>,
-    journal: &Input<'a>,
+    inputs: &Inputs<Input, Input>,
+    journal: &Input,
     outcome: Result<(), DeskFault>,
     out: &Output,
     looked: Looked,
@@ -239,7 +239,7 @@ fn answer_of<'a>(
 pub fn seal<'a, R: Threads + Sync>(
     rt: &'a HostRuntime,
     threads: &R,
-    meter: &'a Meter,
+    meter: &Meter,
     over: &Horizon<'a>,
     journal: &'a str,
 ) -> Result<(), Refusal> {
@@ -282,7 +282,7 @@ pub fn seal<'a, R: Threads + Sync>(
 pub fn asked_of<'a, R: Threads + Sync, Q: Question>(
     rt: &HostRuntime,
     threads: &R,
-    meter: &'a Meter,
+    meter: &Meter,
     over: &Horizon<'a>,
     days: (Day, u16),
     question: &Q,
@@ -304,7 +304,7 @@ pub fn asked_of<'a, R: Threads + Sync, Q: Question>(
 pub fn page_of<'a, R: Threads + Sync, Q: Question>(
     rt: &HostRuntime,
     threads: &R,
-    meter: &'a Meter,
+    meter: &Meter,
     over: &Horizon<'a>,
     days: (Day, u16),
     question: &Q,
@@ -325,7 +325,7 @@ pub fn page_of<'a, R: Threads + Sync, Q: Question>(
 fn looked_at<'a, R: Threads + Sync, Q: Question>(
     rt: &HostRuntime,
     threads: &R,
-    meter: &'a Meter,
+    meter: &Meter,
     over: &Horizon<'a>,
     days: (Day, u16),
     question: &Q,
@@ -356,7 +356,7 @@ fn looked_at<'a, R: Threads + Sync, Q: Question>(
 fn answered<'a, R: Threads + Sync, Q: Question>(
     rt: &HostRuntime,
     threads: &R,
-    meter: &'a Meter,
+    meter: &Meter,
     over: &Horizon<'a>,
     days: (Day, u16),
     question: &Q,
@@ -390,7 +390,7 @@ struct Answer {
 fn answered_once<'a, R: Threads + Sync, Q: Question>(
     rt: &HostRuntime,
     threads: &R,
-    meter: &'a Meter,
+    meter: &Meter,
     over: &Horizon<'a>,
     days: &(Day, u16),
     question: &Q,

@@ -17,7 +17,7 @@ use std::thread::Threads;
 pub fn compare<'a, R: Threads + Sync>(
     rt: &HostRuntime,
     threads: &R,
-    meter: &'a Meter,
+    meter: &Meter,
     from: &Horizon<'a>,
     to: &Horizon<'a>,
     journal: Option<&'a str>,
@@ -48,7 +48,7 @@ struct Attempt {
 fn compared_once<'a, R: Threads + Sync>(
     rt: &HostRuntime,
     threads: &R,
-    meter: &'a Meter,
+    meter: &Meter,
     from: &Horizon<'a>,
     from_days: &(Day, u16),
     to: &Horizon<'a>,
@@ -87,14 +87,14 @@ fn compared_once<'a, R: Threads + Sync>(
 }
 
 /// The comparison of the two, with what is read counted.
-fn compared<'a, R: Threads + Sync>(
+fn compared<R: Threads + Sync>(
     rt: &HostRuntime,
     threads: &R,
-    meter: &'a Meter,
-    from: &mut Inputs<Input<'a>, Input<'a>>,
-    to: &mut Inputs<Input<'a>, Input<'a>>,
+    meter: &Meter,
+    from: &mut Inputs<Input, Input>,
+    to: &mut Inputs<Input, Input>,
     has_journal: bool,
-    journal: &mut Input<'a>,
+    journal: &mut Input,
     seal: &SealFile,
     out: &mut Output,
 ) -> Result<(), SeasonFault>
@@ -119,12 +119,12 @@ fn compared<'a, R: Threads + Sync>(
 }
 
 /// What it came to, of the file that its fault is of: in the order in which they are read.
-fn attempt_of<'a>(
+fn attempt_of(
     rt: &HostRuntime,
     outcome: Result<(), SeasonFault>,
-    to: &Inputs<Input<'a>, Input<'a>>,
-    from: &Inputs<Input<'a>, Input<'a>>,
-    journal: &Input<'a>,
+    to: &Inputs<Input, Input>,
+    from: &Inputs<Input, Input>,
+    journal: &Input,
     out: &Output,
 ) -> Attempt {
     match outcome {

@@ -34,10 +34,10 @@ use table_questions::{
 };
 
 /// The dated flights of a data set.
-pub fn flights<'a>(
+pub fn flights(
     rt: &HostRuntime,
-    meter: &'a Meter,
-    set: &'a str,
+    meter: &Meter,
+    set: &str,
     first: &str,
     days: &str,
     shape: Shape,
@@ -54,7 +54,7 @@ pub fn flights<'a>(
 fn flights_put(
     rt: &HostRuntime,
     form: Option<Form>,
-    set: &mut Input<'_>,
+    set: &mut Input,
     first: Day,
     days: u16,
     out: &mut Output,
@@ -69,11 +69,11 @@ fn flights_put(
 }
 
 /// The rows that are for no leg or hidden, and the legs without one.
-pub fn cover<'a, R: Threads + Sync>(
+pub fn cover<R: Threads + Sync>(
     rt: &HostRuntime,
     threads: &R,
-    meter: &'a Meter,
-    asked: &CoverJob<'a>,
+    meter: &Meter,
+    asked: &CoverJob<'_>,
 ) -> Result<(), Refusal> {
     let over = &asked.over;
     let days = days_of(over.first, over.days)?;
@@ -89,11 +89,11 @@ pub fn cover<'a, R: Threads + Sync>(
 
 /// The rooms of the places that `--day` and `--pair` keep, with bars where they are asked for. Without a journal they are those
 /// after no line.
-pub fn rooms<'a, R: Threads + Sync>(
+pub fn rooms<R: Threads + Sync>(
     rt: &HostRuntime,
     threads: &R,
-    meter: &'a Meter,
-    asked: &RoomsJob<'a>,
+    meter: &Meter,
+    asked: &RoomsJob<'_>,
 ) -> Result<(), Refusal> {
     let over = &asked.over;
     let days = days_of(over.first, over.days)?;
@@ -124,11 +124,11 @@ pub fn rooms<'a, R: Threads + Sync>(
 
 /// How full the legs are that `--flight`, `--day` and `--pair` keep, with bars where they are asked for, as a page, or the sums that `--by` names. Without a journal that is before the first booking.
 /// With `--shards` it is after the lines of all the journals.
-pub fn loads<'a, R: Threads + Sync>(
+pub fn loads<R: Threads + Sync>(
     rt: &HostRuntime,
     threads: &R,
-    meter: &'a Meter,
-    asked: &LoadsJob<'a>,
+    meter: &Meter,
+    asked: &LoadsJob<'_>,
 ) -> Result<(), Refusal> {
     let over = &asked.over;
     let days = days_of(over.first, over.days)?;
@@ -197,7 +197,7 @@ fn journals_asked<'a, 'b>(
 fn put<'a, R: Threads + Sync, Q: Question>(
     rt: &HostRuntime,
     threads: &R,
-    meter: &'a Meter,
+    meter: &Meter,
     over: &Horizon<'a>,
     days: (Day, u16),
     question: &Q,
@@ -220,7 +220,7 @@ fn put<'a, R: Threads + Sync, Q: Question>(
 fn paged<'a, R: Threads + Sync, Q: Question>(
     rt: &HostRuntime,
     threads: &R,
-    meter: &'a Meter,
+    meter: &Meter,
     over: &Horizon<'a>,
     days: (Day, u16),
     question: &Q,
@@ -243,7 +243,7 @@ fn paged<'a, R: Threads + Sync, Q: Question>(
 fn loaded<'a, R: Threads + Sync>(
     rt: &HostRuntime,
     threads: &R,
-    meter: &'a Meter,
+    meter: &Meter,
     over: &Horizon<'a>,
     days: (Day, u16),
     loads: LoadsOf,
@@ -266,7 +266,7 @@ fn loaded<'a, R: Threads + Sync>(
 fn summed<'a, R: Threads + Sync>(
     rt: &HostRuntime,
     threads: &R,
-    meter: &'a Meter,
+    meter: &Meter,
     over: &Horizon<'a>,
     days: (Day, u16),
     loads: LoadsOf,
@@ -302,11 +302,11 @@ fn summed<'a, R: Threads + Sync>(
 }
 
 /// The live bookings of the locators, the flights and the day that are asked for.
-pub fn bookings<'a, R: Threads + Sync>(
+pub fn bookings<R: Threads + Sync>(
     rt: &HostRuntime,
     threads: &R,
-    meter: &'a Meter,
-    asked: &BookingsJob<'a>,
+    meter: &Meter,
+    asked: &BookingsJob<'_>,
 ) -> Result<(), Refusal> {
     let over = &asked.over;
     let days = days_of(over.first, over.days)?;
@@ -338,11 +338,11 @@ pub fn bookings<'a, R: Threads + Sync>(
 }
 
 /// Who waits, on the flights and the day that are asked for; with `--shards` of all the journals.
-pub fn waiting<'a, R: Threads + Sync>(
+pub fn waiting<R: Threads + Sync>(
     rt: &HostRuntime,
     threads: &R,
-    meter: &'a Meter,
-    asked: &WaitingJob<'a>,
+    meter: &Meter,
+    asked: &WaitingJob<'_>,
 ) -> Result<(), Refusal> {
     let over = &asked.over;
     let days = days_of(over.first, over.days)?;
@@ -371,11 +371,11 @@ pub fn waiting<'a, R: Threads + Sync>(
 }
 
 /// What was held, sold, cancelled and confirmed behind the lines of an older journal, which is opened first, or behind so many.
-pub fn pickup<'a, R: Threads + Sync>(
+pub fn pickup<R: Threads + Sync>(
     rt: &HostRuntime,
     threads: &R,
-    meter: &'a Meter,
-    asked: &PickupJob<'a>,
+    meter: &Meter,
+    asked: &PickupJob<'_>,
 ) -> Result<(), Refusal> {
     let over = &asked.over;
     let days = days_of(over.first, over.days)?;
@@ -411,7 +411,7 @@ pub fn pickup<'a, R: Threads + Sync>(
 fn pickup_since<'a, R: Threads + Sync>(
     rt: &HostRuntime,
     threads: &R,
-    meter: &'a Meter,
+    meter: &Meter,
     asked: &PickupJob<'a>,
     days: (Day, u16),
     question: &PickupOf<'_>,
@@ -457,11 +457,11 @@ fn pickup_by(by: Option<&str>) -> Result<PickupBy, WordFault> {
 }
 
 /// What the lines of a journal did for a locator, or on a flight, on the days that are asked for.
-pub fn history<'a, R: Threads + Sync>(
+pub fn history<R: Threads + Sync>(
     rt: &HostRuntime,
     threads: &R,
-    meter: &'a Meter,
-    asked: &HistoryJob<'a>,
+    meter: &Meter,
+    asked: &HistoryJob<'_>,
 ) -> Result<(), Refusal> {
     let over = &asked.over;
     let days = days_of(over.first, over.days)?;
@@ -505,7 +505,7 @@ fn locators_of(alloc: Global, words: &[&str]) -> Result<Vec<Locator>, Refusal> {
 fn tabled<'a, R: Threads + Sync, T: Table>(
     rt: &HostRuntime,
     threads: &R,
-    meter: &'a Meter,
+    meter: &Meter,
     over: &Horizon<'a>,
     days: (Day, u16),
     table: &T,

@@ -16,11 +16,11 @@ use std::cell::Cell;
 use std::thread::Threads;
 
 /// In what the list and the live bookings differ, or those of a session. The list is read ahead of all else. It answers the number of differences.
-pub fn reconcile<'a, R: Threads + Sync>(
+pub fn reconcile<R: Threads + Sync>(
     rt: &HostRuntime,
     threads: &R,
-    meter: &'a Meter,
-    asked: &ReconcileJob<'a>,
+    meter: &Meter,
+    asked: &ReconcileJob<'_>,
 ) -> Result<usize, Refusal> {
     let over = &asked.horizon;
     let days = days_of(over.first, over.days)?;

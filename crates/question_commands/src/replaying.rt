@@ -26,11 +26,11 @@ use seat_words::{
 use std::thread::Threads;
 
 /// Without a script the journal is looked at alone. Scripts need the day of the run, and it needs scripts, as older lines do.
-pub fn audit<'a, R: Threads + Sync>(
+pub fn audit<R: Threads + Sync>(
     rt: &HostRuntime,
     threads: &R,
-    meter: &'a Meter,
-    asked: &AuditJob<'a>,
+    meter: &Meter,
+    asked: &AuditJob<'_>,
 ) -> Result<(), Refusal> {
     let over = &asked.over;
     let days = days_of(over.first, over.days)?;
@@ -92,7 +92,7 @@ struct Attempt {
 fn audit_against<'a, R: Threads + Sync>(
     rt: &HostRuntime,
     threads: &R,
-    meter: &'a Meter,
+    meter: &Meter,
     over: &Horizon<'a>,
     days: (Day, u16),
     replayed: &Replayed<'a, '_>,
@@ -118,7 +118,7 @@ fn audit_against<'a, R: Threads + Sync>(
 fn audited_once<'a, R: Threads + Sync>(
     rt: &HostRuntime,
     threads: &R,
-    meter: &'a Meter,
+    meter: &Meter,
     over: &Horizon<'a>,
     days: &(Day, u16),
     replayed: &Replayed<'a, '_>,
@@ -166,22 +166,22 @@ fn audited_once<'a, R: Threads + Sync>(
 
 /// What is read beside seals, open.
 #[derive(Drop)]
-struct Files<'a> {
-    inputs: Inputs<Input<'a>, Input<'a>>,
-    after: Input<'a>,
-    journal: Input<'a>,
-    scripts: Vec<Input<'a>>,
+struct Files {
+    inputs: Inputs<Input, Input>,
+    after: Input,
+    journal: Input,
+    scripts: Vec<Input>,
 }
 
 /// Without a script there are none where a run without one had changes alone.
 fn files_opened<'a>(
     rt: &HostRuntime,
-    meter: &'a Meter,
+    meter: &Meter,
     over: &Horizon<'a>,
     days: &(Day, u16),
     replayed: &Replayed<'a, '_>,
     may_be_changes: bool,
-) -> Result<Files<'a>, Refusal>
+) -> Result<Files, Refusal>
     ensures first { IfOk result (λ files. files.inputs.first ≡ days.now.0) }
     ensures days { IfOk result (λ files. files.inputs.days ≡ days.now.1) }
     ensures scripts { IfOk result (λ files.
@@ -207,11 +207,11 @@ fn files_opened<'a>(
 }
 
 /// Sorts the scripts out where a list of their wrong lines is named, which must be that.
-fn sort_out_beside<'a>(
+fn sort_out_beside(
     rt: &HostRuntime,
-    meter: &'a Meter,
-    refused: Option<&'a str>,
-    scripts: &mut Vec<Input<'a>>,
+    meter: &Meter,
+    refused: Option<&str>,
+    scripts: &mut Vec<Input>,
 ) -> Result<(), Refusal>
     requires few { length scripts.old.items ≤ 8 }
     ensures each { OnOk result (length scripts.new.items ≡ length scripts.old.items) }
@@ -226,19 +226,19 @@ fn sort_out_beside<'a>(
     sort_out_as(rt, scripts, &mut list)
 }
 
-fn journals_opened<'a>(
+fn journals_opened(
     rt: &HostRuntime,
-    replayed: &Replayed<'a, '_>,
-) -> Result<(Input<'a>, Input<'a>), Refusal> {
+    replayed: &Replayed<'_, '_>,
+) -> Result<(Input, Input), Refusal> {
     let after = opened_or(rt, replayed.after, &NO_LINES)?;
     let journal = taken(rt, replayed.journal)?;
     Ok((after, journal))
 }
 
 /// What a command over these files came to.
-fn attempt_of<'a>(
+fn attempt_of(
     rt: &HostRuntime,
-    files: &Files<'a>,
+    files: &Files,
     outcome: Result<(), DeskFault>,
     out: &Output,
 ) -> Attempt {
@@ -260,7 +260,7 @@ fn attempt_of<'a>(
     }
 }
 
-fn is_one_moved(rt: &HostRuntime, files: &Files<'_>) -> bool {
+fn is_one_moved(rt: &HostRuntime, files: &Files) -> bool {
     is_moved(rt, &files.after) || is_moved(rt, &files.journal)
 }
 
@@ -278,11 +278,11 @@ fn wanted_of(asked: &RepliesJob<'_>) -> Result<Wanted, WordFault> {
 }
 
 /// A run without a script had changes alone.
-pub fn replies<'a, R: Threads + Sync>(
+pub fn replies<R: Threads + Sync>(
     rt: &HostRuntime,
     threads: &R,
-    meter: &'a Meter,
-    asked: &RepliesJob<'a>,
+    meter: &Meter,
+    asked: &RepliesJob<'_>,
 ) -> Result<(), Refusal> {
     let over = &asked.over;
     let days = days_of(over.first, over.days)?;
@@ -316,7 +316,7 @@ pub fn replies<'a, R: Threads + Sync>(
 fn replied_once<'a, R: Threads + Sync>(
     rt: &HostRuntime,
     threads: &R,
-    meter: &'a Meter,
+    meter: &Meter,
     over: &Horizon<'a>,
     days: &(Day, u16),
     replayed: &Replayed<'a, '_>,
@@ -366,16 +366,16 @@ fn replied_once<'a, R: Threads + Sync>(
 }
 
 /// The replies as text, or in a form.
-fn replies_put<'a, R: Threads + Sync>(
+fn replies_put<R: Threads + Sync>(
     rt: &HostRuntime,
     threads: &R,
     form: Option<Form>,
-    inputs: &mut Inputs<Input<'a>, Input<'a>>,
-    after: &mut Input<'a>,
+    inputs: &mut Inputs<Input, Input>,
+    after: &mut Input,
     replayed: &Replayed<'_, '_>,
-    journal: &mut Input<'a>,
+    journal: &mut Input,
     besides: &Besides<'_>,
-    scripts: &mut [Input<'a>],
+    scripts: &mut [Input],
     wanted: Wanted,
     out: &mut Output,
 ) -> Result<(), DeskFault>

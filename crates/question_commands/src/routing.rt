@@ -10,7 +10,7 @@ use seat_files::{Input, Output, Refusal, metered_output, opened_or, told};
 use seat_words::{RouteJob, WordFault, sessions_of_run, shards_word};
 
 /// Where the rows of the file of changes go, if one is named, and behind them the lines of each session's script.
-pub fn route<'a>(rt: &HostRuntime, meter: &'a Meter, asked: &RouteJob<'a>) -> Result<(), Refusal> {
+pub fn route(rt: &HostRuntime, meter: &Meter, asked: &RouteJob<'_>) -> Result<(), Refusal> {
     let Some(shards) = shards_word(asked.shards) else {
         return Err(Refusal::from(WordFault::BadShards));
     };
@@ -31,12 +31,12 @@ pub fn route<'a>(rt: &HostRuntime, meter: &'a Meter, asked: &RouteJob<'a>) -> Re
 }
 
 /// The routes, with what is read counted.
-fn routed<'a>(
+fn routed(
     rt: &HostRuntime,
-    meter: &'a Meter,
+    meter: &Meter,
     shards: u16,
-    changes: &mut Input<'a>,
-    scripts: &mut Vec<Input<'a>>,
+    changes: &mut Input,
+    scripts: &mut Vec<Input>,
     out: &mut Output,
 ) -> Result<(), DeskFault>
     requires shards { 1 ≤ shards }

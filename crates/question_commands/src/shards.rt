@@ -14,11 +14,11 @@ use shard_questions::answer_shards;
 use std::thread::Threads;
 
 /// Audits the journals that are named.
-pub fn audit_shards<'a, R: Threads + Sync>(
+pub fn audit_shards<R: Threads + Sync>(
     rt: &HostRuntime,
     threads: &R,
-    meter: &'a Meter,
-    asked: &AuditJob<'a>,
+    meter: &Meter,
+    asked: &AuditJob<'_>,
 ) -> Result<(), Refusal> {
     let over = &asked.over;
     let days = days_of(over.first, over.days)?;
@@ -43,7 +43,7 @@ pub fn audit_shards<'a, R: Threads + Sync>(
 pub fn shards_asked<'a, R: Threads + Sync, Q: Question>(
     rt: &HostRuntime,
     threads: &R,
-    meter: &'a Meter,
+    meter: &Meter,
     over: &Horizon<'a>,
     days: (Day, u16),
     question: &Q,
@@ -79,13 +79,13 @@ pub fn shards_asked<'a, R: Threads + Sync, Q: Question>(
     }
 }
 
-fn shards_answered<'a, R: Threads + Sync, Q: Question>(
+fn shards_answered<R: Threads + Sync, Q: Question>(
     rt: &HostRuntime,
     threads: &R,
-    meter: &'a Meter,
+    meter: &Meter,
     question: &Q,
-    inputs: &mut Inputs<Input<'a>, Input<'a>>,
-    journals: &mut Vec<Input<'a>>,
+    inputs: &mut Inputs<Input, Input>,
+    journals: &mut Vec<Input>,
     out: &mut Output,
 ) -> Result<(), ShardFault>
     requires first { IsOfCentury inputs.old.first }
@@ -103,12 +103,12 @@ fn shards_answered<'a, R: Threads + Sync, Q: Question>(
     )
 }
 
-fn shards_audited<'a, R: Threads + Sync>(
+fn shards_audited<R: Threads + Sync>(
     rt: &HostRuntime,
     threads: &R,
-    meter: &'a Meter,
-    inputs: &mut Inputs<Input<'a>, Input<'a>>,
-    journals: &mut Vec<Input<'a>>,
+    meter: &Meter,
+    inputs: &mut Inputs<Input, Input>,
+    journals: &mut Vec<Input>,
     out: &mut Output,
 ) -> Result<(), ShardFault>
     requires first { IsOfCentury inputs.old.first }
@@ -121,9 +121,9 @@ fn shards_audited<'a, R: Threads + Sync>(
 
 /// The inputs and the journals, open.
 #[derive(Drop)]
-struct Shards<'a> {
-    inputs: Inputs<Input<'a>, Input<'a>>,
-    journals: Vec<Input<'a>>,
+struct Shards {
+    inputs: Inputs<Input, Input>,
+    journals: Vec<Input>,
 }
 
 fn shards_opened<'a>(
@@ -132,7 +132,7 @@ fn shards_opened<'a>(
     days: (Day, u16),
     first: &'a str,
     others: &[&'a str],
-) -> Result<Shards<'a>, Refusal>
+) -> Result<Shards, Refusal>
     ensures first { IfOk result (λ shards. shards.inputs.first ≡ days.0) }
     ensures days { IfOk result (λ shards. shards.inputs.days ≡ days.1) }
 {
@@ -145,10 +145,10 @@ fn shards_opened<'a>(
 }
 
 /// What it came to, of the file that it is of.
-fn noted<'a>(
+fn noted(
     outcome: Result<(), ShardFault>,
-    inputs: &Inputs<Input<'a>, Input<'a>>,
-    journals: &[Input<'a>],
+    inputs: &Inputs<Input, Input>,
+    journals: &[Input],
     outs: &[&Output],
 ) -> Result<(), Refusal> {
     match outcome {
@@ -177,7 +177,7 @@ fn journals_opened<'a>(
     rt: &HostRuntime,
     first: &'a str,
     others: &[&'a str],
-) -> Result<Vec<Input<'a>>, Refusal> {
+) -> Result<Vec<Input>, Refusal> {
     let mut files = Vec::new(rt.alloc());
     push(&mut files, taken(rt, first)?)?;
     for word in others {
@@ -186,7 +186,7 @@ fn journals_opened<'a>(
     Ok(files)
 }
 
-fn push<'a>(files: &mut Vec<Input<'a>>, file: Input<'a>) -> Result<(), Refusal> {
+fn push(files: &mut Vec<Input>, file: Input) -> Result<(), Refusal> {
     match files.push(file) {
         Ok(()) => Ok(()),
         Err(_) => Err(Refusal::from(DeskFault::Memory)),

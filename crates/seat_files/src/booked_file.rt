@@ -23,8 +23,8 @@ impl Refusal {
         rt: &HostRuntime,
         seal: &SealFile,
         lines: u64,
-        scripts: &[Input<'_>],
-        changes: &Input<'_>,
+        scripts: &[Input],
+        changes: &Input,
     ) -> Refusal
         ensures { result.fault ≡ self.fault }
     {
@@ -43,8 +43,8 @@ fn booked_name<'a>(
     rt: &HostRuntime,
     seal: &SealFile,
     lines: u64,
-    scripts: &[Input<'a>],
-    changes: &Input<'a>,
+    scripts: &'a [Input],
+    changes: &'a Input,
 ) -> Option<&'a str> {
     let seal = read_seal(seal.as_beside().text?)?;
     for script in scripts {
@@ -66,13 +66,7 @@ enum Booked {
 }
 
 /// Whether an input begins with what a run booked that the seal has, of either entry.
-fn begins_with_one(
-    rt: &HostRuntime,
-    input: &Input<'_>,
-    seal: &Seal,
-    lines: u64,
-    what: Booked,
-) -> bool {
+fn begins_with_one(rt: &HostRuntime, input: &Input, seal: &Seal, lines: u64, what: Booked) -> bool {
     if let Some(text) = input.held() {
         return is_of_one(rt, text, seal, lines, what);
     }
@@ -114,7 +108,7 @@ fn is_of_entry(
 }
 
 /// The bytes of an input that is a regular file, read once more from its name.
-fn bytes_again(rt: &HostRuntime, input: &Input<'_>) -> Option<Vec<u8>> {
+fn bytes_again(rt: &HostRuntime, input: &Input) -> Option<Vec<u8>> {
     match input.looked() {
         Ok(Some(file)) if file.is_file() => {}
         _ => return None,

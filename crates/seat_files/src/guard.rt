@@ -34,9 +34,9 @@ impl<'a> Guard<'a> {
     /// Refuses a file that is one of the inputs, by its name or by its device and its number there, so by a link too.
     pub fn pass(
         &self,
-        inputs: &Inputs<Input<'a>, Input<'a>>,
-        scripts: &[Input<'a>],
-        more: &[&Input<'a>],
+        inputs: &Inputs<Input, Input>,
+        scripts: &[Input],
+        more: &[&Input],
     ) -> Result<(), Refusal>
         ensures refused { IfErr result (λ refusal. IsTrue (is_of_file refusal.fault)) }
     {
@@ -92,7 +92,7 @@ impl<'a> Guard<'a> {
         }
     }
 
-    fn pass_one(&self, input: &Input<'_>) -> Result<(), FileFault> {
+    fn pass_one(&self, input: &Input) -> Result<(), FileFault> {
         if !self.path.is_empty() && input.name() == self.path {
             return Err(FileFault::Barred(Bar::Another));
         }
@@ -107,7 +107,7 @@ impl<'a> Guard<'a> {
 
     /// An input that fails is refused under its own name.
     #[tactic(auto, using(crate::proofs::Refused::of_failure))]
-    fn refused(&self, input: &Input<'a>, fault: FileFault) -> Refusal
+    fn refused(&self, input: &Input, fault: FileFault) -> Refusal
         ensures value { result.fault ≡ file_fault fault }
         ensures file { IsTrue (is_of_file result.fault) }
     {
@@ -145,9 +145,9 @@ pub fn pass_error(rt: &HostRuntime, there: &Metadata) -> Result<(), FileFault> {
 /// The files of all inputs and of standard output, as far as they have one.
 pub fn files_taken(
     rt: &HostRuntime,
-    inputs: &Inputs<Input<'_>, Input<'_>>,
-    scripts: &[Input<'_>],
-    more: &[&Input<'_>],
+    inputs: &Inputs<Input, Input>,
+    scripts: &[Input],
+    more: &[&Input],
 ) -> Result<Vec<Metadata>, Refusal>
     ensures refused { IfErr result (λ refusal. IsTrue (is_failure refusal.fault)) }
 {
@@ -174,7 +174,7 @@ pub fn files_taken(
     }
 }
 
-fn add_looked(files: &mut Vec<Metadata>, input: &Input<'_>) -> Result<(), Failure> {
+fn add_looked(files: &mut Vec<Metadata>, input: &Input) -> Result<(), Failure> {
     let file = input.looked()?;
     add_file(files, file)
 }

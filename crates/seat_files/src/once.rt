@@ -21,11 +21,7 @@ pub(crate) struct FileId {
 
 /// Refuses a regular file that has bytes and is two of the scripts, or a script and the changes, by whatever names.
 #[tactic(auto, using(crate::proofs::Refused::scripts_of_failure))]
-pub fn pass_once(
-    rt: &HostRuntime,
-    scripts: &[Input<'_>],
-    changes: &Input<'_>,
-) -> Result<(), Refusal>
+pub fn pass_once(rt: &HostRuntime, scripts: &[Input], changes: &Input) -> Result<(), Refusal>
     ensures refused { IfErr result (λ refusal. IsTrue (is_of_scripts refusal.fault)) }
 {
     let mut files = Vec::new(rt.alloc());
@@ -43,7 +39,7 @@ pub fn pass_once(
     }
 }
 
-fn add_id(files: &mut Vec<Option<FileId>>, input: &Input<'_>) -> Result<(), Failure> {
+fn add_id(files: &mut Vec<Option<FileId>>, input: &Input) -> Result<(), Failure> {
     let id = match input.looked()? {
         Some(file) if file.is_file() && file.len() > 0 => Some(FileId {
             device: file.dev(),
@@ -58,7 +54,7 @@ fn add_id(files: &mut Vec<Option<FileId>>, input: &Input<'_>) -> Result<(), Fail
 }
 
 /// The name of the script at this place, and behind all scripts that of the changes.
-fn name_at<'b>(scripts: &[Input<'b>], place: usize, changes: &Input<'b>) -> &'b str {
+fn name_at<'a>(scripts: &'a [Input], place: usize, changes: &'a Input) -> &'a str {
     match scripts.get(place) {
         Some(script) => script.name(),
         None => changes.name(),

@@ -238,7 +238,7 @@ impl Refusal {
     }
 
     /// The fault of an input that failed while it was read.
-    pub fn unread(input: &Input<'_>) -> Refusal
+    pub fn unread(input: &Input) -> Refusal
         ensures { result.fault ≡ Fault.Desk DeskFault.Device }
     {
         Refusal::from(DeskFault::Device).at(input.name(), input.reason())
@@ -268,7 +268,7 @@ impl Refusal {
 
     /// Names the input where it may be the one that the fault is of. Inputs are read and checked one behind the other, and noted
     /// in that order: the fault of an input is one of the last that was read, and a device that failed is the last that did.
-    fn noting(self, input: &Input<'_>) -> Refusal
+    fn noting(self, input: &Input) -> Refusal
         ensures { result.fault ≡ self.fault }
     {
         if let Fault::Desk(DeskFault::Device) = self.fault {
@@ -285,7 +285,7 @@ impl Refusal {
 
     /// Names the journal where one of its lines is not what the scripts ask, or it has fewer than the words say, or where no run of its
     /// seal, or several, began where the scripts may have begun.
-    pub fn noting_unasked(self, journal: &Input<'_>) -> Refusal
+    pub fn noting_unasked(self, journal: &Input) -> Refusal
         ensures { result.fault ≡ self.fault }
     {
         match self.fault {
@@ -298,7 +298,7 @@ impl Refusal {
         }
     }
 
-    fn of_input(self, input: &Input<'_>) -> Refusal
+    fn of_input(self, input: &Input) -> Refusal
         ensures { result.fault ≡ self.fault }
     {
         let mut refusal = self.at(input.name(), None);
@@ -307,7 +307,7 @@ impl Refusal {
     }
 
     /// The same for several, in order.
-    pub fn noting_all(self, inputs: &[&Input<'_>]) -> Refusal
+    pub fn noting_all(self, inputs: &[&Input]) -> Refusal
         ensures { result.fault ≡ self.fault }
     {
         let mut refusal = self;
@@ -318,7 +318,7 @@ impl Refusal {
     }
 
     /// The same for inputs that are kept together.
-    pub fn noting_each(self, inputs: &[Input<'_>]) -> Refusal
+    pub fn noting_each(self, inputs: &[Input]) -> Refusal
         ensures { result.fault ≡ self.fault }
     {
         let mut refusal = self;
@@ -647,7 +647,7 @@ impl From<WordFault> for Refusal {
 /// What a command came to: done, or refused for one of the inputs, in the order in which they are read, or of the outputs.
 pub fn told(
     outcome: Result<(), DeskFault>,
-    inputs: &[&Input<'_>],
+    inputs: &[&Input],
     outputs: &[&Output],
 ) -> Result<(), Refusal>
     ensures ok { IsOk outcome → IsOk result }

@@ -38,11 +38,7 @@ impl SealFile {
     }
 
     /// What stands beside a journal that is open, where it is a regular file.
-    pub fn beside(
-        rt: &HostRuntime,
-        journal: &Input<'_>,
-        is_wanted: bool,
-    ) -> Result<SealFile, Refusal>
+    pub fn beside(rt: &HostRuntime, journal: &Input, is_wanted: bool) -> Result<SealFile, Refusal>
         ensures wanted { IfOk result (λ seal. seal_wanted seal ≡ is_wanted) }
         ensures refused { IfErr result (λ refusal. IsTrue (is_failure refusal.fault)) }
     {
@@ -88,7 +84,7 @@ fn seal_path(rt: &HostRuntime, name: &str) -> Result<Option<String>, Failure> {
 }
 
 /// The bytes of the seal of a journal that is open, where it is a regular file and has one.
-fn text_beside(rt: &HostRuntime, journal: &Input<'_>) -> Result<Option<Vec<u8>>, Failure> {
+fn text_beside(rt: &HostRuntime, journal: &Input) -> Result<Option<Vec<u8>>, Failure> {
     match journal.looked()? {
         Some(file) if file.is_file() => {}
         _ => return Ok(None),
@@ -118,7 +114,7 @@ pub fn text_at(rt: &HostRuntime, path: &str) -> Result<Option<Vec<u8>>, Failure>
 }
 
 /// Whether a journal's name leads to another file than the one that is open, as where a run replaced it meanwhile.
-pub fn is_moved(rt: &HostRuntime, journal: &Input<'_>) -> bool {
+pub fn is_moved(rt: &HostRuntime, journal: &Input) -> bool {
     let Ok(Some(own)) = journal.looked() else {
         return false;
     };

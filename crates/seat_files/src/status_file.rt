@@ -21,7 +21,7 @@ impl StatusFile {
     pub fn of(
         rt: &HostRuntime,
         path: &str,
-        inputs: &Inputs<Input<'_>, Input<'_>>,
+        inputs: &Inputs<Input, Input>,
         journal: &str,
     ) -> Result<StatusFile, Refusal> {
         match pass(rt, path, inputs, journal) {
@@ -59,7 +59,7 @@ impl StatusFile {
 fn pass(
     rt: &HostRuntime,
     path: &str,
-    inputs: &Inputs<Input<'_>, Input<'_>>,
+    inputs: &Inputs<Input, Input>,
     journal: &str,
 ) -> Result<(), Refusal> {
     let guard = match Guard::new(rt, path) {
@@ -78,7 +78,7 @@ fn pass(
 fn pass_inputs(
     rt: &HostRuntime,
     guard: &Guard<'_>,
-    inputs: &Inputs<Input<'_>, Input<'_>>,
+    inputs: &Inputs<Input, Input>,
     journal: &str,
 ) -> Result<(), Refusal> {
     match opened(rt, journal) {

@@ -131,7 +131,7 @@ fn tell_of_season(rt: &HostRuntime, words: &[&str], error: &clap::Error) {
 fn carry_out<'a, T: Threads + Wait + Clock + Sync + Copy + Send + 'static>(
     rt: &'a HostRuntime,
     threads: &T,
-    meter: &'a Meter,
+    meter: &Meter,
     asked: &CommandLine<'a>,
 ) -> Result<ExitCode, Undone> {
     match &asked.job {
@@ -219,11 +219,11 @@ fn seasoned(rt: &HostRuntime, set: &str, limits: &str) -> Result<ExitCode, Undon
 }
 
 /// A list against a journal, where the words say whose bookings it is to have.
-fn reconciled<'a, T: Threads + Sync>(
+fn reconciled<T: Threads + Sync>(
     rt: &HostRuntime,
     threads: &T,
-    meter: &'a Meter,
-    asked: &ReconcileJob<'a>,
+    meter: &Meter,
+    asked: &ReconcileJob<'_>,
 ) -> Result<ExitCode, Undone> {
     if asked.all && asked.session.is_some() {
         return Err(Undone::Word(words_in_conflict(rt.alloc(), BOTH)?));
@@ -251,11 +251,11 @@ fn served<'a, T: Threads + Wait + Clock + Copy + Send + 'static>(
 }
 
 /// The journals of hosts that have different flights, or one journal, with the scripts of its run or alone.
-fn audited<'a, T: Threads + Sync>(
+fn audited<T: Threads + Sync>(
     rt: &HostRuntime,
     threads: &T,
-    meter: &'a Meter,
-    asked: &AuditJob<'a>,
+    meter: &Meter,
+    asked: &AuditJob<'_>,
 ) -> Result<(), Refusal> {
     if asked.are_shards {
         return question_commands::audit_shards(rt, threads, meter, asked);

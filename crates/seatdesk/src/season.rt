@@ -72,11 +72,11 @@ fn words_over(
 }
 
 /// Runs `compare` over what two seasons say of a set, its limits and its days.
-pub fn compared<'a, T: Threads + Sync>(
+pub fn compared<T: Threads + Sync>(
     rt: &HostRuntime,
     threads: &T,
-    meter: &'a Meter,
-    asked: &CompareJob<'a>,
+    meter: &Meter,
+    asked: &CompareJob<'_>,
     is_verbose: bool,
 ) -> Result<ExitCode, Undone> {
     let (from, to) = match both_words(rt, asked.from, asked.to, is_verbose)? {
@@ -102,7 +102,7 @@ pub fn compared<'a, T: Threads + Sync>(
 pub fn carried<'a, T: Threads + Sync>(
     rt: &'a HostRuntime,
     threads: &T,
-    meter: &'a Meter,
+    meter: &Meter,
     asked: &CarryJob<'a>,
     is_verbose: bool,
 ) -> Result<ExitCode, Undone> {
@@ -165,7 +165,7 @@ fn over_both(
 fn compared_over<'a, T: Threads + Sync>(
     rt: &HostRuntime,
     threads: &T,
-    meter: &'a Meter,
+    meter: &Meter,
     from: &'a [&'a str],
     to: &'a [&'a str],
     journal: Option<&'a str>,
