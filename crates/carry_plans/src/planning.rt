@@ -51,10 +51,18 @@ pub(crate) struct Planned {
 }
 
 /// The live bookings that are asked for, and the same by their new flights.
-#[derive(Drop)]
 pub(crate) struct Parts {
     pub chosen: Chosen,
     pub by: ByFlight,
+}
+
+impl Drop for Parts {
+    fn drop(self) {
+        let Parts {
+            chosen: _chosen,
+            by: _by,
+        } = self;
+    }
 }
 
 /// The new inventory of the live bookings, over the file's limits of the new flights, and the report, or a host's part of them; or why there is none.

@@ -45,23 +45,34 @@ pub fn kept_number(rt: &HostRuntime, path: &str, seal: &str) -> io::Result<u32> 
     for number in 1..u32::MAX {
         let kept = kept_path(rt, path, number, "")?;
         let kept_seal = kept_path(rt, path, number, SEAL)?;
-        let is_kept = is_there(rt, kept.as_str())?;
-        if is_kept && !has_same_bytes(rt, path, kept.as_str())? {
-            continue;
-        }
-        if !is_there(rt, kept_seal.as_str())? {
-            return Ok(number);
-        }
-        let fits = if has_seal {
-            has_same_bytes(rt, seal, kept_seal.as_str())?
-        } else {
-            is_kept
-        };
-        if fits {
+        if may_be_kept(rt, path, seal, has_seal, kept.as_str(), kept_seal.as_str())? {
             return Ok(number);
         }
     }
     Err(io::Error::other("no name is free"))
+}
+
+/// Whether these names are free for the file and its seal, or have the same bytes already.
+fn may_be_kept(
+    rt: &HostRuntime,
+    path: &str,
+    seal: &str,
+    has_seal: bool,
+    kept: &str,
+    kept_seal: &str,
+) -> io::Result<bool> {
+    let is_kept = is_there(rt, kept)?;
+    if is_kept && !has_same_bytes(rt, path, kept)? {
+        return Ok(false);
+    }
+    if !is_there(rt, kept_seal)? {
+        return Ok(true);
+    }
+    if has_seal {
+        has_same_bytes(rt, seal, kept_seal)
+    } else {
+        Ok(is_kept)
+    }
 }
 
 /// The name under which a file is kept, or its seal, which has an ending more.
@@ -175,9 +186,19 @@ fn has_same_bytes(rt: &HostRuntime, one: &str, other: &str) -> io::Result<bool> 
 fn are_alike(rt: &HostRuntime, one: &mut File, other: &mut File) -> io::Result<bool> {
     let mut ours = vec![in rt.alloc(); 0u8; PIECE]?;
     let mut theirs = vec![in rt.alloc(); 0u8; PIECE]?;
+    go_on_alike(one, &mut ours, other, &mut theirs)
+}
+
+/// The same from where both stand on, piece by piece.
+fn go_on_alike(
+    one: &mut File,
+    ours: &mut [u8],
+    other: &mut File,
+    theirs: &mut [u8],
+) -> io::Result<bool> {
     for _ in 0..u64::MAX {
-        let n = fill(one, &mut ours)?;
-        let m = fill(other, &mut theirs)?;
+        let n = fill(one, ours)?;
+        let m = fill(other, theirs)?;
         if n != m || ours[..n] != theirs[..m] {
             return Ok(false);
         }
@@ -196,31 +217,48 @@ fn content_of(rt: &HostRuntime, path: &str) -> io::Result<Content> {
 pub fn content_in(rt: &HostRuntime, file: &mut File) -> io::Result<Content> {
     let bytes = file.metadata()?.len();
     let mut piece = vec![in rt.alloc(); 0u8; PIECE]?;
-    let mut ends: u64 = 0;
-    let mut is_journal = false;
-    let mut line = LastLine::new();
+    let heard = heard_in(file, &mut piece)?;
+    if !heard.is_journal {
+        return Ok(Content::Other { bytes });
+    }
+    if heard.line.is_end() {
+        return Ok(Content::Journal {
+            lines: heard.ends.saturating_sub(2),
+        });
+    }
+    Ok(Content::Unended {
+        lines: heard.ends.saturating_sub(1),
+    })
+}
+
+/// What was heard of a file: whether it begins as a journal does, how many lines it has, and how the last one begins.
+#[derive(Drop)]
+struct Heard {
+    is_journal: bool,
+    ends: u64,
+    line: LastLine,
+}
+
+/// Hears a file to its end, piece by piece.
+fn heard_in(file: &mut File, piece: &mut [u8]) -> io::Result<Heard> {
+    let mut heard = Heard {
+        is_journal: false,
+        ends: 0,
+        line: LastLine::new(),
+    };
     for turn in 0..u64::MAX {
-        let n = fill(file, &mut piece)?;
+        let n = fill(file, piece)?;
         if turn == 0 {
-            is_journal = piece[..n].starts_with(JOURNAL_HEAD);
+            heard.is_journal = piece[..n].starts_with(JOURNAL_HEAD);
         }
         if n == 0 {
             break;
         }
-        ends = ends.saturating_add(piece[..n].iter().filter(|byte| **byte == b'\n').count() as u64);
-        line.hear(&piece[..n]);
+        let ends = piece[..n].iter().filter(|byte| **byte == b'\n').count();
+        heard.ends = heard.ends.saturating_add(ends as u64);
+        heard.line.hear(&piece[..n]);
     }
-    if !is_journal {
-        return Ok(Content::Other { bytes });
-    }
-    if line.is_end() {
-        return Ok(Content::Journal {
-            lines: ends.saturating_sub(2),
-        });
-    }
-    Ok(Content::Unended {
-        lines: ends.saturating_sub(1),
-    })
+    Ok(heard)
 }
 
 /// How the last line begins that was heard of a file, and whether it is whole.
