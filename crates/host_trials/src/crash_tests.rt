@@ -1,12 +1,9 @@
 //! Groups of requests over a file that fails at each call in turn, and is then crashed at each byte.
-//! A call of the file is an append or a sync: two for the head, two for each group, and two for the END line.
-ghost use Rattle.std.specs.Prelude.{◌<◌};
-
-use crate::desk::{Desk, are_behind, asked_by};
-use crate::files::{ENDS, Why, alone, found, grid, part, spoilt, worked};
+//! A call of the file is an append or a sync: two for the head, and two for each group.
+use crate::desk::{Desk, File, answer, look};
+use crate::files::{Why, end_of, grid_of, kept, part, recovered, requests_of, whole};
 use airline_base::Failures;
-use seat_disk::{Fuse, Tape, TornTape};
-use seat_journal::Entry;
+use seat_disk::Tape;
 use seat_serving::Asked;
 use std::alloc::Global;
 use std::process::Abort;
@@ -15,9 +12,6 @@ use std::test::Fail;
 
 /// What is left of Y behind each line.
 const ROOMS: [u16; 11] = [3, 1, 1, 1, 0, 0, 0, 0, 0, 0, 0];
-
-/// Groups of how many requests.
-const SIZES: [usize; 4] = [1, 3, 4, 10];
 
 /// Behind how many calls the file fails, and how many requests are in a group.
 #[derive(Clone, Copy)]
@@ -33,37 +27,24 @@ impl Failing {
         (groups as usize).saturating_mul(self.size).min(10)
     }
 
-    /// Whether all is answered.
-    fn is_whole(self) -> bool {
-        self.told() == 10
-    }
-
-    /// How many bytes are on the disk, and how many were written. An odd number of calls ends behind an append.
-    fn written(self) -> (usize, usize) {
+    /// How many bytes are on the disk.
+    fn synced(self) -> usize {
         if self.calls < 2 {
-            return (0, if self.calls == 1 { 14 } else { 0 });
+            return 0;
         }
-        let told = self.told();
-        let more = if self.calls % 2 == 1 {
-            told.saturating_add(self.size).min(10)
-        } else {
-            told
-        };
-        (end_of(told), end_of(more))
+        end_of(self.told())
     }
-}
 
-fn end_of(line: usize) -> usize {
-    ENDS.get(line).copied().unwrap_or(0)
-}
-
-/// What came of the worked requests.
-#[derive(Drop)]
-struct Outcome {
-    told: usize,
-    // Whether it is still open, and what a viewer finds; nothing where no journal was begun.
-    shown: Option<(bool, u16, usize)>,
-    file: Fuse<TornTape>,
+    /// How many bytes were written. An odd number of calls ends behind an append.
+    fn written(self) -> usize {
+        if self.calls % 2 == 0 {
+            return self.synced();
+        }
+        if self.calls < 2 {
+            return 14;
+        }
+        end_of(self.told().saturating_add(self.size).min(10))
+    }
 }
 
 /// Asks for one group after the other until the file fails: how many lines are told.
@@ -71,57 +52,41 @@ fn ask_all<R: Wait>(
     rt: &R,
     alloc: Global,
     desk: &mut Desk,
-    lines: &[Entry],
+    asked: &[Asked],
     size: usize,
-) -> Result<usize, Why>
-    requires { 0 < size }
-{
-    let asked = asked_by(alloc, lines)?;
+) -> Result<usize, Why> {
     let mut told = 0usize;
-    for group in asked.as_slice().chunks(size) {
-        match answered(rt, alloc, desk, group, told, lines) {
+    for _ in 0..10u8 {
+        let next = told.saturating_add(size).min(asked.len());
+        if told >= next {
+            break;
+        }
+        match answer(rt, alloc, &mut desk.serving, &asked[told..next]) {
             Ok(count) => told = told.saturating_add(count),
-            Err(Why::Device) => return Ok(told),
+            Err(Why::Device) => break,
             Err(why) => return Err(why),
         }
     }
     Ok(told)
 }
 
-/// Asks for a group, behind so many lines: its lines are the next ones.
-fn answered<R: Wait>(
-    rt: &R,
-    alloc: Global,
-    desk: &mut Desk,
-    group: &[Asked],
-    told: usize,
-    lines: &[Entry],
-) -> Result<usize, Why> {
-    let answered = desk.answer(rt, alloc, group)?;
-    if answered.stop.is_some() || answered.lines.len() != group.len() {
-        return Err(Why::ALineForEach);
+/// Whether a viewer finds so many lines, and what they leave, and the journal is open where these are all.
+fn shows(desk: &mut Desk, told: usize) -> bool {
+    let Some((room, seen)) = look(&mut desk.viewer) else {
+        return false;
+    };
+    if told >= ROOMS.len() || ROOMS[told] != room {
+        return false;
     }
-    if !are_behind(answered.lines.as_slice(), told, lines) {
-        return Err(Why::TheWorkedLines);
-    }
-    Ok(group.len())
+    seen as usize == told && desk.serving.is_open() == (told == 10)
 }
 
-fn fail<R: Wait>(rt: &R, alloc: Global, failing: Failing) -> Result<Outcome, Why> {
-    let Some(grid) = grid(alloc) else {
-        return Err(Why::Grid);
-    };
-    if failing.size == 0 {
-        return Err(Why::Requests);
-    }
-    let lines = worked(alloc)?;
+/// Asks for all over a file that fails: the file. As many lines are told as are to be, and shown, and no more.
+fn fail<R: Wait>(rt: &R, alloc: Global, asked: &[Asked], failing: Failing) -> Result<File, Why> {
+    let grid = grid_of(alloc, 3, 2)?;
     match Desk::open(rt, alloc, grid, 10, failing.calls) {
-        Ok(desk) => fail_behind(rt, alloc, desk, lines.as_slice(), failing.size),
-        Err((Why::Device, file)) => Ok(Outcome {
-            told: 0,
-            shown: None,
-            file,
-        }),
+        Ok(desk) => fail_behind(rt, alloc, desk, asked, failing),
+        Err((Why::Device, file)) => Ok(file),
         Err((why, _)) => Err(why),
     }
 }
@@ -131,134 +96,64 @@ fn fail_behind<R: Wait>(
     rt: &R,
     alloc: Global,
     desk: Desk,
-    lines: &[Entry],
-    size: usize,
-) -> Result<Outcome, Why>
-    requires { 0 < size }
-{
+    asked: &[Asked],
+    failing: Failing,
+) -> Result<File, Why> {
     let mut desk = desk;
-    let asked = ask_all(rt, alloc, &mut desk, lines, size);
-    let look = desk.look();
-    let is_open = desk.is_open();
+    let told = ask_all(rt, alloc, &mut desk, asked, failing.size);
+    let is_shown = shows(&mut desk, failing.told());
     let file = desk.close(rt);
-    match (asked, look) {
-        (Ok(told), Some((room, seen))) => Ok(Outcome {
-            told,
-            shown: Some((is_open, room, seen as usize)),
-            file,
-        }),
-        (Err(why), _) => Err(why),
-        _ => Err(Why::Viewer),
+    if told? != failing.told() {
+        return Err(Why::Lines);
     }
+    if is_shown { Ok(file) } else { Err(Why::Viewer) }
 }
 
-fn shown(failing: Failing) -> Option<(bool, u16, usize)> {
-    if failing.calls < 2 {
-        return None;
-    }
-    let told = failing.told();
-    let room = ROOMS.get(told).copied()?;
-    Some((failing.is_whole(), room, told))
+/// Whether one failure is counted, a file that refused a sync is good for nothing more, and it holds what was written.
+fn is_given_back(file: &File, failing: Failing) -> bool {
+    let is_whole = failing.told() == 10;
+    file.failures() == u64::from(!is_whole)
+        && file.may_be_used() == (is_whole || failing.calls % 2 == 0)
 }
 
-fn holds(rt: &impl Abort, failing: Failing, is_right: bool, shows: &str) {
-    let Failing { calls, size } = failing;
-    assert!(rt; is_right, "{shows} in {size}, behind {calls}");
+/// Whether a crash that leaves so many bytes leaves all lines that were told, and those that stand whole in them.
+fn is_found(alloc: Global, file: File, failing: Failing, len: usize) -> Result<bool, Why> {
+    let mut file = file.into_inner();
+    let synced = failing.synced();
+    let is_written = file.bytes() == part(0, failing.written());
+    file.crash(part(synced, len));
+    let Ok(found) = recovered(alloc, grid_of(alloc, 3, 2)?, 10, file.bytes()) else {
+        return Ok(false);
+    };
+    let lines = found.core.journal().len();
+    Ok(is_written && (lines, found.len) == kept(len) && failing.told() <= lines)
 }
 
-// Behind a call that failed it is closed, and viewers find what was told and no more.
-#[test]
-fn answers_nothing_behind_a_failure(rt: HostRuntime) -> Result<(), Fail> {
-    for size in SIZES {
-        for calls in 0..25u64 {
-            let failing = Failing { calls, size };
-            let outcome = fail(&rt, rt.alloc(), failing)?;
-            holds(&rt, failing, outcome.told == failing.told(), "told");
-            holds(&rt, failing, outcome.shown == shown(failing), "shown");
-        }
-    }
-    Ok(())
-}
-
-// One failure is counted, a file that refused a sync is good for nothing more, and it holds what was written.
-#[test]
-fn gives_the_failed_file_back(rt: HostRuntime) -> Result<(), Fail> {
-    for size in SIZES {
-        for calls in 0..25u64 {
-            let failing = Failing { calls, size };
-            let is_whole = failing.is_whole();
-            let outcome = fail(&rt, rt.alloc(), failing)?;
-            let failures = if is_whole { 0 } else { 1 };
-            holds(&rt, failing, outcome.file.failures() == failures, "counted");
-            let is_usable = is_whole || calls % 2 == 0;
-            holds(
-                &rt,
-                failing,
-                outcome.file.may_be_used() == is_usable,
-                "usable",
-            );
-            let (_, written) = failing.written();
-            let is_there = outcome.file.into_inner().bytes() == part(0, written);
-            holds(&rt, failing, is_there, "written");
-        }
-    }
-    Ok(())
-}
-
-fn finds(rt: &impl Abort, failing: Failing, len: usize, is_right: bool, shows: &str) {
-    let Failing { calls, size } = failing;
-    assert!(rt; is_right, "{len} bytes {shows} in {size}, behind {calls}");
-}
-
-/// The file that a crash leaves, where these bytes stand in place of what was on its way, and how many lines were told.
-fn crash<R: Wait>(
+/// At each byte of what was on its way.
+fn crash_at_each<R: Wait + Abort>(
     rt: &R,
     alloc: Global,
+    asked: &[Asked],
     failing: Failing,
-    torn: &[u8],
-) -> Result<(TornTape, usize), Why> {
-    let outcome = fail(rt, alloc, failing)?;
-    let mut file = outcome.file.into_inner();
-    file.crash(torn);
-    Ok((file, outcome.told))
-}
-
-// A beginning of what was on its way: all lines that were told are found, and those of the beginning.
-#[test]
-fn finds_what_was_told(rt: HostRuntime) -> Result<(), Fail> {
-    for size in SIZES {
-        for calls in 0..25u64 {
-            let failing = Failing { calls, size };
-            let (synced, written) = failing.written();
-            for len in synced..written.saturating_add(1) {
-                let (file, told) = crash(&rt, rt.alloc(), failing, part(synced, len))?;
-                finds(&rt, failing, len, file.bytes() == part(0, len), "left");
-                let found = found(rt.alloc(), 10, file.bytes())?;
-                let is_found = found == alone(len) && told <= found.0;
-                finds(&rt, failing, len, is_found, "found");
-            }
-        }
+) -> Result<(), Why> {
+    let Failing { calls, size } = failing;
+    for len in failing.synced()..failing.written().saturating_add(1) {
+        let file = fail(rt, alloc, asked, failing)?;
+        let is_right = is_given_back(&file, failing) && is_found(alloc, file, failing, len)?;
+        assert!(rt;
+            is_right,
+            "{len} bytes in groups of {size}, behind {calls} calls"
+        );
     }
     Ok(())
 }
 
-// LFs in place of all that was on its way.
 #[test]
-fn finds_what_was_told_ahead_of_rubbish(rt: HostRuntime) -> Result<(), Fail> {
-    for size in SIZES {
-        for calls in 0..25u64 {
-            let failing = Failing { calls, size };
-            let (synced, written) = failing.written();
-            let want = if written > synced {
-                spoilt(synced)
-            } else {
-                alone(synced)
-            };
-            let mut rubbish = Vec::new(rt.alloc());
-            rubbish.resize(written.saturating_sub(synced), b'\n')?;
-            let (file, told) = crash(&rt, rt.alloc(), failing, rubbish.as_slice())?;
-            let found = found(rt.alloc(), 10, file.bytes())?;
-            holds(&rt, failing, found == want && told <= found.0, "found");
+fn finds_what_was_told(rt: HostRuntime) -> Result<(), Fail> {
+    let asked = requests_of(rt.alloc(), whole())?;
+    for size in [1usize, 3, 4, 10] {
+        for calls in 0..23u64 {
+            crash_at_each(&rt, rt.alloc(), asked.as_slice(), Failing { calls, size })?;
         }
     }
     Ok(())

@@ -1,166 +1,106 @@
 //! Want of memory: a group ends ahead of the request for which a growth was refused, and the rest is answered when it is
 //! asked again. The test passes with any one growth refused, and takes no more than one refusal as an answer.
-use crate::desk::{Desk, are_behind, asked_by};
-use crate::files::{ENDS, Why, grid, part, text, worked};
-use seat_journal::{Entries, Entry};
-use seat_serving::{Asked, Stop};
+use crate::desk::{Desk, answer, look};
+use crate::files::{Why, end_of, grid_of, part, requests_of, whole};
+use seat_serving::Asked;
 use std::alloc::Global;
 use std::sync::Wait;
 use std::test::Fail;
 
-/// The worked lines. A refused growth is tried again.
-fn lines_again(alloc: Global) -> Result<Entries, Why> {
-    match worked(alloc) {
-        Ok(lines) => Ok(lines),
-        Err(_) => worked(alloc),
-    }
-}
-
-/// What they ask for. A refused growth is tried again.
-fn asked_again(alloc: Global, lines: &[Entry]) -> Result<Vec<Asked>, Why> {
-    match asked_by(alloc, lines) {
-        Ok(asked) => Ok(asked),
-        Err(_) => asked_by(alloc, lines),
-    }
-}
-
 /// A journal of no line. Where it is refused, by the file too, the file is empty.
 fn open<R: Wait>(rt: &R, alloc: Global) -> Result<Desk, Why> {
-    let Some(grid) = grid(alloc) else {
-        return Err(Why::Memory);
-    };
-    match Desk::open(rt, alloc, grid, 10, 99) {
+    match Desk::open(rt, alloc, grid_of(alloc, 3, 2)?, 10, 99) {
         Ok(desk) => Ok(desk),
         Err((why, file)) => {
             if file.into_inner().bytes().is_empty() {
                 Err(why)
             } else {
-                Err(Why::File)
+                Err(Why::Journal)
             }
         }
     }
 }
 
-/// The same, once more where it was refused; and how often it was.
-fn open_again<R: Wait>(rt: &R, alloc: Global) -> Result<(Desk, u32), Why> {
-    match open(rt, alloc) {
-        Ok(desk) => Ok((desk, 0)),
-        Err(Why::Memory | Why::Device) => Ok((open(rt, alloc)?, 1)),
-        Err(why) => Err(why),
-    }
-}
-
-/// How many lines were told, and how often a growth was refused.
-#[derive(Clone, Copy)]
-struct Progress {
-    told: usize,
-    refused: u32,
-}
-
-fn refused(progress: &mut Progress) {
-    progress.refused = progress.refused.saturating_add(1);
-}
-
-/// Asks for all that has no line yet. Viewers find what was told, and no more.
-fn answer_rest<R: Wait>(
+/// How many lines of a group are told: none where it is refused. A viewer has then seen what was told, and no more.
+fn told<R: Wait>(
     rt: &R,
     alloc: Global,
     desk: &mut Desk,
     asked: &[Asked],
-    lines: &[Entry],
-    progress: &mut Progress,
-) -> Result<(), Why> {
-    let Some(rest) = asked.get(progress.told..asked.len()) else {
-        return Err(Why::Requests);
-    };
-    match desk.answer(rt, alloc, rest) {
-        Ok(answered) => {
-            if !are_behind(answered.lines.as_slice(), progress.told, lines) {
-                return Err(Why::TheWorkedLines);
-            }
-            progress.told = progress.told.saturating_add(answered.lines.len());
-            match answered.stop {
-                Some(Stop::Memory) => refused(progress),
-                Some(Stop::Full) => return Err(Why::ALineForEach),
-                None => if progress.told != 10 {
-                    return Err(Why::ALineForEach);
-                },
-            }
-        }
-        Err(Why::Memory | Why::Device) => refused(progress),
+    before: usize,
+) -> Result<usize, Why> {
+    let rest = before.min(asked.len());
+    let more = match answer(rt, alloc, &mut desk.serving, &asked[rest..]) {
+        Ok(count) => count,
+        Err(Why::Memory | Why::Device) => 0,
         Err(why) => return Err(why),
-    }
-    match desk.look() {
-        Some((_, seen)) if seen as usize == progress.told => Ok(()),
-        _ => Err(Why::AllVisible),
+    };
+    let all = before.saturating_add(more);
+    match look(&mut desk.viewer) {
+        Some((_, seen)) if seen as usize == all => Ok(all),
+        _ => Err(Why::Viewer),
     }
 }
 
-/// Asks until all have their lines, or the file failed, at most twice.
-fn answer_again<R: Wait>(
+/// Asks until all have their lines, or the file failed, at most twice: how many are told at first, and then.
+fn told_again<R: Wait>(
     rt: &R,
     alloc: Global,
     desk: &mut Desk,
-    lines: &[Entry],
-    progress: &mut Progress,
-) -> Result<(), Why> {
-    let asked = asked_again(alloc, lines)?;
-    for _ in 0..2u8 {
-        if progress.told < 10 && desk.is_open() {
-            answer_rest(rt, alloc, desk, asked.as_slice(), lines, progress)?;
-        }
+    asked: &[Asked],
+) -> Result<(usize, usize), Why> {
+    let first = told(rt, alloc, desk, asked, 0)?;
+    if first == 10 || !desk.serving.is_open() {
+        return Ok((first, first));
     }
-    Ok(())
-}
-
-/// Whether a file that was refused a growth has what was told, and nothing else.
-fn has_told(rt: &impl Wait, desk: Desk, told: usize) -> bool {
-    let end = ENDS.get(told).copied().unwrap_or(0);
-    desk.close(rt).into_inner().bytes() == part(0, end)
-}
-
-/// Whether the journal ends, or is left open as it was where that is refused.
-fn ends<R: Wait>(rt: &R, alloc: Global, desk: Desk, progress: &mut Progress) -> bool {
-    match desk.end(rt, alloc) {
-        Ok((ended, file)) => {
-            let file = file.into_inner();
-            ended.journal.len() == 10
-                && file.bytes().len() == 363
-                && file.bytes().starts_with(text())
-                && file.bytes().ends_with(b"END 10\n")
-        }
-        Err((why, file)) => {
-            refused(progress);
-            matches!(why, Why::Memory | Why::Device) && file.into_inner().bytes() == text()
-        }
+    let all = told(rt, alloc, desk, asked, first)?;
+    if all < 10 && desk.serving.is_open() {
+        return Err(Why::Lines);
     }
+    Ok((first, all))
 }
 
-fn try_all<R: Wait>(rt: &R, alloc: Global) -> Result<(), Why> {
-    let lines = lines_again(alloc)?;
-    let (mut desk, count) = open_again(rt, alloc)?;
-    let mut progress = Progress {
-        told: 0,
-        refused: count,
+/// Has all answered, and ends: how often a growth was refused. A file that was refused one, and one that is not ended, have what was told.
+fn answer_and_end<R: Wait>(rt: &R, alloc: Global, desk: Desk, asked: &[Asked]) -> Result<u32, Why> {
+    let mut desk = desk;
+    let answered = told_again(rt, alloc, &mut desk, asked);
+    let (is_ended, file) = match desk.end(rt, alloc) {
+        Ok(file) => (true, file),
+        Err((_, file)) => (false, file),
     };
-    let answered = answer_again(rt, alloc, &mut desk, lines.as_slice(), &mut progress);
-    let is_open = desk.is_open();
-    let is_right = if is_open {
-        ends(rt, alloc, desk, &mut progress)
+    let (first, all) = answered?;
+    let left = if is_ended {
+        whole()
     } else {
-        has_told(rt, desk, progress.told)
+        part(0, end_of(all))
     };
-    answered?;
-    if !is_right || (is_open && progress.told != 10) {
-        return Err(Why::WhatIsLeft);
+    if file.into_inner().bytes() != left {
+        return Err(Why::Device);
     }
-    if progress.refused > 1 {
-        return Err(Why::OneFailure);
+    let of_lines = u32::from(first < 10);
+    let of_end = u32::from(all == 10 && !is_ended);
+    Ok(of_lines.saturating_add(of_end))
+}
+
+fn try_all<R: Wait>(rt: &R, alloc: Global) -> Result<u32, Why> {
+    let asked = match requests_of(alloc, whole()) {
+        Ok(asked) => asked,
+        Err(_) => requests_of(alloc, whole())?,
+    };
+    match open(rt, alloc) {
+        Ok(desk) => answer_and_end(rt, alloc, desk, asked.as_slice()),
+        Err(Why::Memory | Why::Device) => {
+            let desk = open(rt, alloc)?;
+            let more = answer_and_end(rt, alloc, desk, asked.as_slice())?;
+            Ok(more.saturating_add(1))
+        }
+        Err(why) => Err(why),
     }
-    Ok(())
 }
 
 #[test]
 fn answers_again(rt: HostRuntime) -> Result<(), Fail> {
-    Ok(try_all(&rt, rt.alloc())?)
+    let refused = try_all(&rt, rt.alloc())?;
+    assert!(rt; refused < 2, "{refused} growths are refused");
+    Ok(())
 }

@@ -1,12 +1,10 @@
 //! Crashes drawn by lot: what was told is found again, however the file is torn behind it.
-use crate::desk::{Desk, are_behind};
-use crate::files::{Why, recovered};
-use crate::lots::{Lots, two_classes};
-use crate::steps::holds_at;
+use crate::desk::{Desk, answer};
+use crate::files::{Why, grid_of, holds_at, recovered, requests_of};
+use crate::lots::{Lots, requests};
+use memory_disk::TornTape;
 use seat_core::Core;
-use seat_disk::{Tape, TornTape};
 use seat_journal::Entry;
-use seat_nesting::Grid;
 use seat_recovery::{Recovered, RecoveryFault, Rest, open_text};
 use seat_rules::may_ask;
 use seat_serving::Asked;
@@ -17,20 +15,6 @@ use std::test::Fail;
 /// The most lines of a journal here.
 const CAP: u32 = 99;
 
-fn grid(alloc: Global) -> Result<Grid, Why> {
-    match two_classes(alloc) {
-        Some(grid) => Ok(grid),
-        None => Err(Why::Grid),
-    }
-}
-
-/// Groups of requests, and the inventory that has their lines one by one, without a file.
-#[derive(Drop)]
-struct Asking {
-    groups: Vec<Vec<Asked>>,
-    core: Core,
-}
-
 fn step(core: &mut Core, alloc: Global, request: &Asked) -> Result<(), Why> {
     if !may_ask(request.session, &request.work) || !core.fits_work(&request.work) {
         return Err(Why::Requests);
@@ -38,34 +22,22 @@ fn step(core: &mut Core, alloc: Global, request: &Asked) -> Result<(), Why> {
     let call = core.calls_of(request.session) + 1;
     match core.step(alloc, request.session, call, request.work) {
         Ok(_) => Ok(()),
-        Err(_) => Err(Why::SoManyLines),
+        Err(_) => Err(Why::Lines),
     }
 }
 
-fn step_all(core: &mut Core, alloc: Global, group: &[Asked]) -> Result<(), Why> {
-    for request in group {
-        step(core, alloc, request)?;
-    }
-    Ok(())
-}
-
-/// One to eight groups.
-fn draw_asking(alloc: Global, lots: &mut Lots) -> Result<Asking, Why> {
-    let Ok(mut core) = Core::new(alloc, grid(alloc)?, CAP) else {
+/// The inventory that has their lines one by one, without a file.
+fn core_of(alloc: Global, asked: &[Asked]) -> Result<Core, Why> {
+    let Ok(mut core) = Core::new(alloc, grid_of(alloc, 6, 6)?, CAP) else {
         return Err(Why::Memory);
     };
-    let mut groups = Vec::new(alloc);
-    for _ in 0..lots.below(8).saturating_add(1) {
-        let group = lots.group(alloc)?;
-        step_all(&mut core, alloc, group.as_slice())?;
-        if groups.push(group).is_err() {
-            return Err(Why::Memory);
-        }
+    for at in 0..asked.len() {
+        step(&mut core, alloc, &asked[at])?;
     }
-    Ok(Asking { groups, core })
+    Ok(core)
 }
 
-/// A file that failed or is left open, and what was told by then.
+/// A file that failed or is left open, and how many lines were told by then.
 #[derive(Drop)]
 struct Leaving {
     file: TornTape,
@@ -73,36 +45,34 @@ struct Leaving {
     has_head: bool,
 }
 
+/// Asks for up to eight groups, until the file fails: how many lines are told.
 fn answer_all<R: Wait>(
     rt: &R,
     alloc: Global,
+    lots: &mut Lots,
     desk: &mut Desk,
-    asking: &Asking,
+    asked: &[Asked],
 ) -> Result<usize, Why> {
     let mut told = 0usize;
-    for group in &asking.groups {
-        match desk.answer(rt, alloc, group.as_slice()) {
-            Ok(answered) => {
-                if !are_behind(answered.lines.as_slice(), told, asking.core.journal()) {
-                    return Err(Why::TheLinesOneByOne);
-                }
-                told = told.saturating_add(answered.lines.len());
-            }
+    for _ in 0..8u8 {
+        let next = told.saturating_add(lots.below(6) as usize).min(asked.len());
+        if told > next {
+            return Err(Why::Lines);
+        }
+        match answer(rt, alloc, &mut desk.serving, &asked[told..next]) {
+            Ok(count) => told = told.saturating_add(count),
             Err(Why::Device) => return Ok(told),
             Err(why) => return Err(why),
         }
     }
-    if told == asking.core.journal().len() {
-        Ok(told)
-    } else {
-        Err(Why::ALineForEach)
-    }
+    Ok(told)
 }
 
-fn leave<R: Wait>(rt: &R, alloc: Global, asking: &Asking, calls: u64) -> Result<Leaving, Why> {
-    match Desk::open(rt, alloc, grid(alloc)?, CAP, calls) {
+fn leave<R: Wait>(rt: &R, alloc: Global, lots: &mut Lots, asked: &[Asked]) -> Result<Leaving, Why> {
+    let calls = u64::from(lots.below(12));
+    match Desk::open(rt, alloc, grid_of(alloc, 6, 6)?, CAP, calls) {
         Ok(mut desk) => {
-            let told = answer_all(rt, alloc, &mut desk, asking);
+            let told = answer_all(rt, alloc, lots, &mut desk, asked);
             let file = desk.close(rt).into_inner();
             Ok(Leaving {
                 file,
@@ -119,93 +89,37 @@ fn leave<R: Wait>(rt: &R, alloc: Global, asking: &Asking, calls: u64) -> Result<
     }
 }
 
-/// How many bytes the head and these lines have.
-fn len_of(alloc: Global, lines: &[Entry], count: usize) -> Result<usize, Why> {
-    let Some((front, _)) = lines.split_at_checked(count) else {
-        return Err(Why::SoManyLines);
-    };
-    match open_text(alloc, front) {
-        Ok(text) => Ok(text.len()),
+/// The head and the first of these lines.
+fn text_of(alloc: Global, lines: &[Entry], count: usize) -> Result<Vec<u8>, Why> {
+    if count > lines.len() {
+        return Err(Why::Lines);
+    }
+    match open_text(alloc, &lines[..count]) {
+        Ok(text) => Ok(text),
         Err(_) => Err(Why::Memory),
     }
 }
 
-/// Crashes a file: what was not synced is torn so.
+/// Crashes a file: what was not synced is torn so. The text of what is on the disk.
 fn crash(
     alloc: Global,
     lots: &mut Lots,
     leaving: &mut Leaving,
     lines: &[Entry],
     tear: u32,
-) -> Result<(), Why> {
-    let synced = if leaving.has_head {
-        len_of(alloc, lines, leaving.told)?
+) -> Result<Vec<u8>, Why> {
+    let kept = if leaving.has_head {
+        text_of(alloc, lines, leaving.told)?
     } else {
-        0
+        Vec::new(alloc)
     };
     let bytes = leaving.file.bytes();
-    let Some(behind) = bytes.get(synced..bytes.len()) else {
-        return Err(Why::WhatWasTold);
-    };
-    let torn = lots.torn(alloc, behind, tear)?;
+    if kept.len() > bytes.len() {
+        return Err(Why::Device);
+    }
+    let torn = lots.torn(alloc, &bytes[kept.len()..], tear)?;
     leaving.file.crash(torn.as_slice());
-    Ok(())
-}
-
-/// Whether as many lines are found as stand whole in the file, where it is a beginning of their text.
-fn are_longest(alloc: Global, lines: &[Entry], found: &Recovered, all: usize) -> Result<bool, Why> {
-    let count = found.core.journal().len();
-    if found.len != len_of(alloc, lines, count)? {
-        return Ok(false);
-    }
-    Ok(count == lines.len() || len_of(alloc, lines, count.saturating_add(1))? > all)
-}
-
-/// Whether what was told is found first; and where the file is a beginning of the text, what stands there and no more.
-fn is_right(
-    alloc: Global,
-    lines: &[Entry],
-    leaving: &Leaving,
-    found: &Recovered,
-    tear: u32,
-) -> Result<bool, Why> {
-    let kept = found.core.journal();
-    let Some(first) = kept.get(..leaving.told) else {
-        return Ok(false);
-    };
-    if !are_behind(first, 0, lines) {
-        return Ok(false);
-    }
-    match found.rest {
-        Rest::NoHead => Ok(!leaving.has_head && kept.is_empty()),
-        _ if tear == 0 => Ok(
-            are_behind(kept, 0, lines)
-                && are_longest(alloc, lines, found, leaving.file.bytes().len())?,
-        ),
-        _ => Ok(true),
-    }
-}
-
-/// Cuts the file back to what is kept of it, and recovers it once more.
-fn is_found_again(alloc: Global, leaving: &mut Leaving, found: &Recovered) -> Result<bool, Why> {
-    if leaving.file.cut(found.len as u64).is_err() {
-        return Err(Why::File);
-    }
-    let Ok(again) = recovered(alloc, grid(alloc)?, CAP, leaving.file.bytes()) else {
-        return Ok(false);
-    };
-    let is_whole = match again.rest {
-        Rest::Whole => true,
-        Rest::NoHead => found.len == 0,
-        _ => false,
-    };
-    let kept = found.core.journal();
-    Ok(
-        is_whole
-            && again.len == found.len
-            && again.core.journal().len() == kept.len()
-            && are_behind(again.core.journal(), 0, kept),
-    )
+    Ok(kept)
 }
 
 /// How many crashes came where lines were told, where lines were found that were not, behind a torn line, and ahead of damage.
@@ -217,13 +131,10 @@ struct Counts {
     damaged: u32,
 }
 
-fn count(counts: &mut Counts, leaving: &Leaving, found: &Recovered) {
-    if leaving.told > 0 {
-        counts.told = counts.told.saturating_add(1);
-    }
-    if found.core.journal().len() > leaving.told {
-        counts.more = counts.more.saturating_add(1);
-    }
+fn count(counts: &mut Counts, told: usize, found: &Recovered) {
+    counts.told = counts.told.saturating_add(u32::from(told > 0));
+    let is_more = found.core.journal().len() > told;
+    counts.more = counts.more.saturating_add(u32::from(is_more));
     match found.rest {
         Rest::Torn => counts.torn = counts.torn.saturating_add(1),
         Rest::Damaged(_) => counts.damaged = counts.damaged.saturating_add(1),
@@ -231,21 +142,19 @@ fn count(counts: &mut Counts, leaving: &Leaving, found: &Recovered) {
     }
 }
 
-/// Whether what was told is found in what a crash left, and the same once more.
-fn find(
+/// Whether what was told stands first in what a crash left, and is found in it.
+fn is_found(
     alloc: Global,
     counts: &mut Counts,
-    lines: &[Entry],
-    leaving: &mut Leaving,
-    tear: u32,
+    leaving: &Leaving,
+    kept: &[u8],
 ) -> Result<bool, Why> {
-    match recovered(alloc, grid(alloc)?, CAP, leaving.file.bytes()) {
+    let bytes = leaving.file.bytes();
+    match recovered(alloc, grid_of(alloc, 6, 6)?, CAP, bytes) {
         Ok(found) => {
-            count(counts, leaving, &found);
-            Ok(
-                is_right(alloc, lines, leaving, &found, tear)?
-                    && is_found_again(alloc, leaving, &found)?,
-            )
+            count(counts, leaving.told, &found);
+            let is_there = bytes.starts_with(kept) && found.len >= kept.len();
+            Ok(is_there && found.core.journal().len() >= leaving.told)
         }
         // Only of a head that was on its way.
         Err(RecoveryFault::Head) => Ok(!leaving.has_head),
@@ -258,19 +167,20 @@ fn try_crash<R: Wait>(
     alloc: Global,
     lots: &mut Lots,
     counts: &mut Counts,
+    all: &[Asked],
 ) -> Result<bool, Why> {
-    let asking = draw_asking(alloc, lots)?;
-    let groups = asking.groups.len().min(8) as u32;
-    let calls = lots.below(groups.saturating_mul(2).saturating_add(4));
+    let count = lots.below(31);
+    let asked = lots.some(alloc, count, all)?;
+    let core = core_of(alloc, asked.as_slice())?;
+    let mut leaving = leave(rt, alloc, lots, asked.as_slice())?;
     let tear = lots.below(4);
-    let mut leaving = leave(rt, alloc, &asking, u64::from(calls))?;
-    let lines = asking.core.journal();
-    crash(alloc, lots, &mut leaving, lines, tear)?;
-    find(alloc, counts, lines, &mut leaving, tear)
+    let kept = crash(alloc, lots, &mut leaving, core.journal(), tear)?;
+    is_found(alloc, counts, &leaving, kept.as_slice())
 }
 
 #[test]
 fn finds_what_was_told_by_lot(rt: HostRuntime) -> Result<(), Fail> {
+    let all = requests_of(rt.alloc(), requests())?;
     let mut lots = Lots::new(2026);
     let mut counts = Counts {
         told: 0,
@@ -279,18 +189,20 @@ fn finds_what_was_told_by_lot(rt: HostRuntime) -> Result<(), Fail> {
         damaged: 0,
     };
     for crash in 0..10000u32 {
-        let tried = try_crash(&rt, rt.alloc(), &mut lots, &mut counts);
+        let tried = try_crash(&rt, rt.alloc(), &mut lots, &mut counts, all.as_slice());
         holds_at(&rt, matches!(tried, Ok(true)), "crash", crash as usize);
     }
     // The lots are no few of each kind.
-    holds_at(&rt, counts.told > 2500, "told", counts.told as usize);
-    holds_at(&rt, counts.more > 500, "more", counts.more as usize);
-    holds_at(&rt, counts.torn > 500, "torn", counts.torn as usize);
-    holds_at(
-        &rt,
-        counts.damaged > 500,
-        "damaged",
-        counts.damaged as usize,
+    let Counts {
+        told,
+        more,
+        torn,
+        damaged,
+    } = counts;
+    let are_many = told > 2500 && more > 500 && torn > 500 && damaged > 500;
+    assert!(rt;
+        are_many,
+        "{told} told, {more} more, {torn} torn, {damaged} damaged"
     );
     Ok(())
 }

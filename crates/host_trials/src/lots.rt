@@ -1,32 +1,37 @@
-//! Requests of five sessions and of the manager on one leg of two classes, in groups, and what a crash tears, drawn by lot.
+//! Requests of five sessions and of the manager on one leg, and what a crash tears, drawn by lot.
 ghost use Rattle.std.specs.Prelude.{◌<◌, ◌≤◌};
 
 use crate::files::Why;
-use airline_base::{Class, Code, Locator, Place};
-use seat_journal::{Change, Command, SaleChange, Work};
-use seat_nesting::{Grid, Ladder, Step};
 use seat_serving::Asked;
 use std::alloc::Global;
 
-/// Six seats of Y, four of them of M too, and six of each may wait. Needs are listed in Y alone.
-pub fn two_classes(alloc: Global) -> Option<Grid> {
-    let steps = [
-        Step {
-            class: Class::new(b'Y')?,
-            limit: 6,
-            wait: 6,
-            listed: true,
-            closed: false,
-        },
-        Step {
-            class: Class::new(b'M')?,
-            limit: 4,
-            wait: 6,
-            listed: false,
-            closed: false,
-        },
-    ];
-    Grid::single(alloc, Ladder::new(&steps).ok()?).ok()
+/// What is asked for by lot. What these lines were answered does not count.
+pub fn requests() -> &'static [u8] {
+    b"SEATJOURNAL 2
+1 1 1 A00001 0.0.0 Y NN 2 KK 0
+2 2 1 B00002 0.0.0 Y NN 1 KK 0
+3 3 1 C00003 0.0.0 Y SS 3 KK 0
+4 4 1 D00004 0.0.0 Y LL 2 HL 0
+5 5 1 E00005 0.0.0 Y SS 1 KK 0
+6 1 2 E00005 0.0.0 Y LL 1 HL 0
+7 2 2 A00001 0.0.0 Y LL 3 HL 0
+8 1 3 A00001 0.0.0 Y XX 1 HX 0
+9 2 3 B00002 0.0.0 Y XX 1 HX 0
+10 3 2 C00003 0.0.0 Y XX 2 HX 0
+11 4 2 D00004 0.0.0 Y XX 2 HX 0
+12 5 2 E00005 0.0.0 Y XX 1 HX 0
+13 5 3 A00001 0.0.0 Y XX 1 HX 0
+14 3 3 C00003 0.0.0 Q NN 1 NO 0
+15 4 3 F00006 - Y NN 1 NO 0
+16 1 4 F00006 0.0.0 Y ZZ 1 NO 0
+17 0 1 AU 0.0 Y 8 2 OK 0
+18 0 2 AU 0.0 Y 5 6 OK 0
+19 0 3 AU 0.0 Q 1 0 NO 0
+20 0 4 V3 ST 0.0 Y C OK 0
+21 0 5 V3 ST 0.0 Y O OK 0
+22 0 6 V3 ST 0.0 * O OK 0
+END 22
+"
 }
 
 /// Numbers that are the same for the same seed (Knuth's linear congruential generator).
@@ -55,92 +60,20 @@ impl Lots {
         self.draw() % n
     }
 
-    /// One of these.
-    fn pick<T: Copy>(&mut self, all: &[T]) -> Option<T> {
-        let n = all.len();
-        if n == 0 {
-            return None;
-        }
-        all.get(self.draw() as usize % n).copied()
-    }
-
-    fn command(&mut self) -> Option<Command> {
-        let codes: [&[u8]; 8] = [b"NN", b"NN", b"SS", b"SS", b"LL", b"XX", b"XX", b"ZZ"];
-        let place = Place {
-            flight: 0,
-            from: 0,
-            to: 0,
-        };
-        Some(Command {
-            locator: Locator::new(&[b'A', b'0', b'0', b'0', b'0', self.pick(b"ABCDEF")?])?,
-            place: if self.below(20) == 0 {
-                None
-            } else {
-                Some(place)
-            },
-            class: Class::new(self.pick(b"YYYMMQ")?)?,
-            code: Code::new(self.pick(&codes)?)?,
-            seats: (self.below(3) as u16).saturating_add(1),
-        })
-    }
-
-    fn change(&mut self) -> Option<Change> {
-        Some(Change {
-            flight: 0,
-            leg: 0,
-            class: Class::new(self.pick(b"YYMMQ")?)?,
-            limit: self.below(9) as u16,
-            wait: self.below(9) as u16,
-        })
-    }
-
-    /// A class, or all, to be closed or, more often, opened.
-    fn sale(&mut self) -> Option<SaleChange> {
-        let class = match self.below(4) {
-            0 => None,
-            _ => Some(Class::new(self.pick(b"YYMMQ")?)?),
-        };
-        Some(SaleChange {
-            flight: 0,
-            leg: 0,
-            class,
-            closed: self.below(3) == 0,
-        })
-    }
-
-    /// One of eight changes a limit, and one of sixteen others closes or opens a class.
-    fn request(&mut self) -> Option<Asked> {
-        if self.below(8) == 0 {
-            return Some(Asked {
-                session: 0,
-                work: Work::Limit(self.change()?),
-            });
-        }
-        if self.below(16) == 0 {
-            return Some(Asked {
-                session: 0,
-                work: Work::Sale(self.sale()?),
-            });
-        }
-        Some(Asked {
-            session: (self.below(5) as u8).saturating_add(1),
-            work: Work::Seats(self.command()?),
-        })
-    }
-
-    /// Up to five requests.
-    pub fn group(&mut self, alloc: Global) -> Result<Vec<Asked>, Why> {
-        let mut group = Vec::new(alloc);
-        for _ in 0..self.below(6) {
-            let Some(Asked { session, work }) = self.request() else {
+    /// So many of these, at most fifty.
+    pub fn some(&mut self, alloc: Global, count: u32, all: &[Asked]) -> Result<Vec<Asked>, Why> {
+        let most = (all.len().min(65_535) as u32).max(1);
+        let mut asked = Vec::new(alloc);
+        for _ in 0..count.min(50) {
+            let at = self.below(most) as usize;
+            if at >= all.len() {
                 return Err(Why::Requests);
-            };
-            let request = Asked { session, work };
-            if group.push(request).is_err() {
+            }
+            if asked.push(all[at]).is_err() {
                 return Err(Why::Memory);
             }
         }
-        Ok(group)
+        Ok(asked)
     }
 
     /// As many bytes as these at most, for a crash to leave in place of them: some of them, some of them with one that is
@@ -149,8 +82,8 @@ impl Lots {
         let mut torn = Vec::new(alloc);
         let len = self.below((bytes.len().min(65_535) as u32).saturating_add(1).max(1));
         let hole = self.below(len.max(1));
-        for (at, byte) in bytes.iter().take(len as usize).enumerate() {
-            let left = self.torn_byte(tear, *byte, at, hole as usize);
+        for at in 0..(len as usize).min(bytes.len()) {
+            let left = self.torn_byte(tear, bytes[at], at, hole as usize);
             if torn.push(left).is_err() {
                 return Err(Why::Memory);
             }

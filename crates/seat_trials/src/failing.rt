@@ -1,81 +1,71 @@
-//! A reader and a writer that pass some calls on, a few bytes at a time, and then fail.
+//! A reader and a writer of one text that pass some calls on, a byte each, and then fail.
 use std::io;
 use std::io::{Read, Write};
 
-/// A reader that gives at most `piece` bytes a call, one at least, and fails once `left` calls were passed on.
+pub const TEXT: [u8; 5] = *b"EFGHI";
+
+/// Gives the text byte by byte, and fails once `left` calls were passed on.
 #[derive(Drop)]
-pub struct FailingReader<'a> {
-    inner: &'a [u8],
-    piece: usize,
+pub struct FailingReader {
+    given: usize,
     left: u64,
 }
 
-impl<'a> FailingReader<'a> {
-    pub fn new(inner: &'a [u8], piece: usize, left: u64) -> FailingReader<'a> {
-        FailingReader { inner, piece, left }
+impl FailingReader {
+    pub fn new(left: u64) -> FailingReader {
+        FailingReader { given: 0, left }
     }
 }
 
-impl Read for FailingReader<'_> {
+impl Read for FailingReader {
     fn read(&mut self, buf: &mut [u8]) -> io::Result<usize> {
         if self.left == 0 {
             return Err(io::Error::from(io::ErrorKind::Interrupted));
         }
         self.left -= 1;
-        let most = self.piece.max(1).min(buf.len());
-        self.inner.read(&mut buf[..most])
+        match TEXT.get(self.given) {
+            Some(byte) if !buf.is_empty() => {
+                buf[0] = *byte;
+                self.given = self.given.saturating_add(1);
+                Ok(1)
+            }
+            _ => Ok(0),
+        }
     }
 }
 
-/// What a writer does once it has passed its calls on.
-#[derive(Clone, Copy, PartialEq, Eq)]
-pub enum Stop {
-    /// It answers an error, to a flush too.
-    Fails,
-    /// It takes none of the bytes.
-    TakesNone,
-}
-
-/// A writer that takes at most `piece` bytes a call, one at least, and stops once `left` calls were passed on.
+/// Takes a byte a call. Once `left` calls were passed on it fails, at a flush too, or takes none.
 #[derive(Drop)]
 pub struct FailingWriter {
-    inner: Vec<u8>,
-    piece: usize,
+    taken: Vec<u8>,
     left: u64,
-    stop: Stop,
+    fails: bool,
 }
 
 impl FailingWriter {
-    pub fn new(inner: Vec<u8>, piece: usize, left: u64, stop: Stop) -> FailingWriter {
-        FailingWriter {
-            inner,
-            piece,
-            left,
-            stop,
-        }
+    pub fn new(taken: Vec<u8>, left: u64, fails: bool) -> FailingWriter {
+        FailingWriter { taken, left, fails }
     }
 
-    pub fn into_inner(self) -> Vec<u8> {
-        self.inner
+    pub fn into_taken(self) -> Vec<u8> {
+        self.taken
     }
 }
 
 impl Write for FailingWriter {
     fn write(&mut self, buf: &[u8]) -> io::Result<usize> {
         if self.left == 0 {
-            return match self.stop {
-                Stop::Fails => Err(io::Error::from(io::ErrorKind::Interrupted)),
-                Stop::TakesNone => Ok(0),
-            };
+            self.flush()?;
+            return Ok(0);
         }
         self.left -= 1;
-        let most = self.piece.max(1).min(buf.len());
-        self.inner.extend_from_slice(&buf[..most])?;
+        let most = buf.len().min(1);
+        self.taken.extend_from_slice(&buf[..most])?;
         Ok(most)
     }
 
     fn flush(&mut self) -> io::Result<()> {
-        if self.left == 0 && self.stop == Stop::Fails {
+        if self.left == 0 && self.fails {
             return Err(io::Error::from(io::ErrorKind::Interrupted));
         }
         Ok(())

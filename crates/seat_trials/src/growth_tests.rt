@@ -1,225 +1,241 @@
 //! Want of memory: a call that is refused changes nothing that a call shows, and is answered when it comes again.
 //! Each of these tests passes with any one growth refused.
-use crate::texts::{LINES_OF_FLIGHT_1, NO_LINES, SAME_LADDERS, SEVEN_LINES};
-use crate::trial::{Trial, are_same, entries, is_memory, is_same, is_text, place_of};
-use crate::wants::Why;
-use crate::worked_set::{TWO_LEGS, grid};
-use airline_base::Class;
-use seat_journal::Entry;
-use seat_nesting::{Counts, Grid};
+ghost use Rattle.std.specs.Prelude.{◌≡◌, ◌≤◌, [], IfSome, length};
+
+use crate::inventories::{are_same, can_ask, opened, shown, step};
+use crate::limits::{LIMITS, grid};
+use seat_core::{Core, replay};
+use seat_journal::{Entries, Entry, JournalFault, JournalKind, read_journal};
+use seat_nesting::Counts;
 use std::alloc::Global;
-use std::process::Abort;
-use std::test::Fail;
 
-fn open(alloc: Global) -> Result<Trial, Why> {
-    Trial::of_two_legs(alloc, SAME_LADDERS, 7)
+/// Two sessions on flights 0 and 1, and a limit that the manager lowers: one seat of Y and one of M are held on flight 0, leg 0.
+const SEVEN_LINES: &[u8] = b"SEATJOURNAL 2
+1 1 1 A00001 0.0.1 Y NN 2 KK 0
+2 1 2 A00001 1.0.0 F NN 1 KK 0
+3 1 3 A00001 0.0.1 Y XX 1 HX 1
+4 2 1 B00001 0.0.0 M NN 1 KK 0
+5 2 2 B00001 1.0.0 Y LL 2 HL 0 KL:5:1.0.0:Y:2
+6 2 3 B00001 0.0.0 Q NN 1 UC 0
+7 0 1 AU 0.0 M 3 4 OK 0
+END 7
+";
+
+/// Those that are on flight 1: lines, calls and bookings are counted anew.
+const LINES_OF_FLIGHT_1: &[u8] = b"SEATJOURNAL 2
+1 1 1 A00001 1.0.0 F NN 1 KK 0
+2 2 1 B00001 1.0.0 Y LL 2 HL 0 KL:2:1.0.0:Y:2
+END 2
+";
+
+/// The least and the greatest values, no place, and two advices.
+const LEAST_AND_GREATEST: &[u8] = b"SEATJOURNAL 2
+0 0 0 000000 0.0.0 A AA 0 AA 0
+4294967295 255 4294967295 ZZZZZ9 4294967295.255.255 Z ZZ 65535 ZZ 65535
+7 8 10 ABC123 - B NN 3 NO 4 KL:0:0.0.0:A:0 KL:4294967295:4294967295.255.255:Z:65535
+0 0 0 AU 0.0 A 0 0 AA 0 KL:0:0.0.0:A:0
+4294967295 255 4294967295 AU 4294967295.255 Z 65535 65535 ZZ 65535
+END 5
+";
+
+fn read(alloc: Global, text: &[u8]) -> Result<Entries, JournalFault>
+    requires { length text.now ≤ 999 }
+{
+    read_journal(alloc, text)
 }
 
-fn open_grid(alloc: Global) -> Result<Grid, Why> {
-    grid(alloc, TWO_LEGS, SAME_LADDERS).ok_or(Why::Grid)
-}
-
-/// How a line comes to be added.
-#[derive(Clone, Copy)]
-enum Way {
-    Steps,
-    Prepares,
-}
-
-/// Adds a line; false where that was refused.
-fn add(trial: &mut Trial, way: Way, line: &Entry) -> Result<bool, Why> {
-    let answer = match way {
-        Way::Steps => trial.step(line.session, line.work),
-        Way::Prepares => trial.prepare(line.session, line.work),
-    };
-    match answer {
-        Ok(entry) => {
-            if are_same(entry, line) {
-                Ok(true)
-            } else {
-                Err(Why::OtherLine)
-            }
-        }
-        Err(why) => { if is_memory(why) { Ok(false) } else { Err(why) } }
+/// The lines of a text. A refused growth is tried again.
+fn entries(alloc: Global, text: &[u8]) -> Option<Entries>
+    requires { length text.now ≤ 999 }
+{
+    match read(alloc, text) {
+        Ok(lines) => Some(lines),
+        Err(_) => read(alloc, text).ok(),
     }
 }
 
-/// Adds a line, and once more where that was refused without a change.
-fn add_again(trial: &mut Trial, way: Way, line: &Entry) -> Result<(), Why> {
-    let before = trial.shown();
-    if add(trial, way, line)? {
-        return Ok(());
-    }
-    is_same(trial, before)?;
-    if add(trial, way, line)? {
-        return Ok(());
-    }
-    Err(Why::OnceMore)
-}
-
-fn fill(trial: &mut Trial, way: Way, lines: &[Entry]) -> Result<(), Why> {
-    for line in lines {
-        add_again(trial, way, line)?;
-    }
-    trial.has_text(SEVEN_LINES)
-}
-
-/// An inventory with the seven lines, the last of which is a change.
-fn filled(alloc: Global, way: Way) -> Result<Trial, Why> {
-    let lines = entries(alloc, SEVEN_LINES)?;
-    let mut trial = open(alloc)?;
-    fill(&mut trial, way, lines.as_slice())?;
-    Ok(trial)
-}
-
-/// No lines, and the rooms of the limits.
-fn is_open(trial: &Trial) -> bool {
-    trial.has_room(place_of((0, 0, 1)), b'Y', 8)
-        && trial.has_room(place_of((1, 1, 1)), b'M', 5)
-        && is_text(trial.journal(), NO_LINES)
-}
-
-#[test]
-fn opens_again(rt: HostRuntime) -> Result<(), Fail> {
-    let trial = open(rt.alloc())?;
-    assert!(rt; is_open(&trial));
-    Ok(())
-}
-
-#[test]
-fn prepares_again(rt: HostRuntime) -> Result<(), Fail> {
-    let _ = filled(rt.alloc(), Way::Prepares)?;
-    Ok(())
-}
-
-#[test]
-fn steps_again(rt: HostRuntime) -> Result<(), Fail> {
-    let _ = filled(rt.alloc(), Way::Steps)?;
-    Ok(())
-}
-
-/// The part of flight 1; a refused call is made again.
-fn part_of(trial: &Trial) -> Result<Trial, Why> {
-    match trial.part(1) {
-        Ok(part) => Ok(part),
-        Err(_) => trial.part(1),
-    }
-}
-
-#[test]
-fn parts_again(rt: HostRuntime) -> Result<(), Fail> {
-    let trial = filled(rt.alloc(), Way::Steps)?;
-    let before = trial.shown();
-    let part = part_of(&trial)?;
-    is_same(&trial, before)?;
-    Ok(part.has_text(LINES_OF_FLIGHT_1)?)
-}
-
-fn try_replay(alloc: Global, trial: &Trial) -> Result<Trial, Why> {
-    match grid(alloc, TWO_LEGS, SAME_LADDERS) {
-        Some(grid) => trial.again(grid, 7),
-        None => Err(Why::Grid),
-    }
-}
-
-/// The replay of a journal, which is told of want of memory alone and then made again.
-fn replayed(alloc: Global, trial: &Trial) -> Result<Trial, Why> {
-    match try_replay(alloc, trial) {
-        Ok(again) => Ok(again),
-        Err(why) => {
-            if is_memory(why) {
-                try_replay(alloc, trial)
-            } else {
-                Err(why)
-            }
+/// Whether a text is read; a refusal names a line of it, and the next call succeeds.
+fn is_read_again(alloc: Global) -> bool {
+    match read(alloc, LEAST_AND_GREATEST) {
+        Ok(_) => true,
+        Err(fault) => {
+            let is_named = fault.line >= 2 && fault.line <= 6;
+            is_named && fault.kind == JournalKind::Memory && read(alloc, LEAST_AND_GREATEST).is_ok()
         }
     }
 }
 
 #[test]
-fn replays_again(rt: HostRuntime) -> Result<(), Fail> {
-    let trial = filled(rt.alloc(), Way::Steps)?;
-    let before = trial.shown();
-    let again = replayed(rt.alloc(), &trial)?;
-    is_same(&trial, before)?;
-    Ok(is_same(&again, before)?)
+fn reads_again(rt: HostRuntime) {
+    assert!(rt; is_read_again(rt.alloc()));
 }
 
-/// Whether a copy says the same. A refused growth is tried again.
-fn is_copied(alloc: Global, entry: &Entry) -> bool {
-    match entry.copy(alloc) {
-        Ok(copy) => are_same(&copy, entry),
-        Err(_) => match entry.copy(alloc) {
-            Ok(copy) => are_same(&copy, entry),
-            Err(_) => false,
-        },
+fn try_open(alloc: Global) -> Option<Core>
+    ensures { IfSome result (λ core. core.journal ≡ []) }
+{
+    opened(alloc, grid(alloc, LIMITS)?, 7)
+}
+
+/// An inventory without lines. A refused growth is tried again.
+fn open(alloc: Global) -> Option<Core>
+    ensures { IfSome result (λ core. core.journal ≡ []) }
+{
+    match try_open(alloc) {
+        Some(core) => Some(core),
+        None => try_open(alloc),
     }
 }
 
-/// Whether each entry is copied, and stays as it is.
-fn are_copied(alloc: Global, lines: &[Entry]) -> bool {
-    for line in lines {
-        if !is_copied(alloc, line) {
+#[test]
+fn opens_again(rt: HostRuntime) {
+    assert!(rt; open(rt.alloc()).is_some());
+}
+
+/// Prepares a line, and adds it; false where that was refused.
+fn prepare(core: &mut Core, alloc: Global, line: &Entry) -> bool {
+    if !can_ask(core, line.session, &line.work) {
+        return false;
+    }
+    let call = core.calls_of(line.session) + 1;
+    match core.prepare(alloc, line.session, call, line.work) {
+        Ok(line) => {
+            let _ = core.commit(line);
+            true
+        }
+        Err(_) => false,
+    }
+}
+
+fn add(core: &mut Core, alloc: Global, prepares: bool, line: &Entry) -> bool {
+    if prepares {
+        prepare(core, alloc, line)
+    } else {
+        step(core, alloc, line.session, line.work)
+    }
+}
+
+/// Adds the line behind these, and once more where that was refused without a change.
+fn add_again(
+    core: &mut Core,
+    alloc: Global,
+    prepares: bool,
+    front: &[Entry],
+    line: &Entry,
+) -> bool {
+    let before = shown(core);
+    if add(core, alloc, prepares, line) {
+        return true;
+    }
+    shown(core) == before && are_same(core.journal(), front) && add(core, alloc, prepares, line)
+}
+
+fn fill(core: &mut Core, alloc: Global, prepares: bool, lines: &[Entry]) -> bool {
+    for at in 0..lines.len() {
+        if !add_again(core, alloc, prepares, &lines[..at], &lines[at]) {
             return false;
         }
     }
-    is_text(lines, SEVEN_LINES)
+    are_same(core.journal(), lines)
 }
 
-#[test]
-fn copies_an_entry_again(rt: HostRuntime) -> Result<(), Fail> {
-    let lines = entries(rt.alloc(), SEVEN_LINES)?;
-    assert!(rt; are_copied(rt.alloc(), lines.as_slice()));
-    Ok(())
-}
-
-fn copy_of(alloc: Global, grid: &Grid) -> Result<Grid, Why> {
-    match grid.copy(alloc) {
-        Ok(copy) => Ok(copy),
-        Err(_) => match grid.copy(alloc) {
-            Ok(copy) => Ok(copy),
-            Err(_) => Err(Why::OnceMore),
-        },
-    }
-}
-
-/// Whether a leg has a ladder of three classes in one grid, and the same in the other.
-fn has_same(one: &Grid, other: &Grid, flight: u32, leg: u8) -> bool {
-    let steps = one.steps(flight, leg);
-    steps.len() == 3 && steps == other.steps(flight, leg)
-}
-
-#[test]
-fn copies_a_grid_again(rt: HostRuntime) -> Result<(), Fail> {
-    let grid = open_grid(rt.alloc())?;
-    let copy = copy_of(rt.alloc(), &grid)?;
-    let is_same = has_same(&grid, &copy, 0, 0) && has_same(&grid, &copy, 0, 1);
-    assert!(rt; is_same && has_same(&grid, &copy, 1, 0) && has_same(&grid, &copy, 1, 1));
-    Ok(())
-}
-
-fn counts_of(alloc: Global, grid: &Grid) -> Result<Counts, Why> {
-    match Counts::new(alloc, grid) {
-        Ok(counts) => Ok(counts),
-        Err(_) => match Counts::new(alloc, grid) {
-            Ok(counts) => Ok(counts),
-            Err(_) => Err(Why::OnceMore),
-        },
-    }
-}
-
-fn room(counts: &Counts, letter: u8) -> u16 {
-    match Class::new(letter) {
-        Some(class) => counts.room(place_of((1, 0, 1)), class),
-        None => 9999,
+/// An inventory with the seven lines.
+fn filled(alloc: Global, prepares: bool) -> Option<Core> {
+    let lines = entries(alloc, SEVEN_LINES)?;
+    let mut core = open(alloc)?;
+    if fill(&mut core, alloc, prepares, lines.as_slice()) {
+        Some(core)
+    } else {
+        None
     }
 }
 
 #[test]
-fn counts_again(rt: HostRuntime) -> Result<(), Fail> {
-    let grid = open_grid(rt.alloc())?;
-    let counts = counts_of(rt.alloc(), &grid)?;
-    // No seat is held: the rooms are those of the limits.
-    assert!(rt; room(&counts, b'F') == 10 && room(&counts, b'Y') == 8 && room(&counts, b'M') == 5);
-    Ok(())
+fn prepares_again(rt: HostRuntime) {
+    assert!(rt; filled(rt.alloc(), true).is_some());
+}
+
+#[test]
+fn steps_again(rt: HostRuntime) {
+    assert!(rt; filled(rt.alloc(), false).is_some());
+}
+
+/// The part of flight 1; a refused call is made again.
+fn part_of(alloc: Global, core: &Core) -> Option<Core> {
+    match core.of_flight(alloc, 1) {
+        Ok(part) => Some(part),
+        Err(_) => core.of_flight(alloc, 1).ok(),
+    }
+}
+
+fn is_parted(alloc: Global) -> Option<bool> {
+    let core = filled(alloc, false)?;
+    let before = shown(&core);
+    let part = part_of(alloc, &core)?;
+    let wanted = entries(alloc, LINES_OF_FLIGHT_1)?;
+    Some(are_same(part.journal(), wanted.as_slice()) && shown(&core) == before)
+}
+
+#[test]
+fn parts_again(rt: HostRuntime) {
+    assert!(rt; is_parted(rt.alloc()).unwrap_or(false));
+}
+
+fn try_replay(alloc: Global, core: &Core) -> Option<Core> {
+    let opened = open(alloc)?;
+    replay(alloc, opened, core.journal()).ok()
+}
+
+/// The replay of a journal; a refused one is made again.
+fn replayed(alloc: Global, core: &Core) -> Option<Core> {
+    match try_replay(alloc, core) {
+        Some(again) => Some(again),
+        None => try_replay(alloc, core),
+    }
+}
+
+fn is_replayed(alloc: Global) -> Option<bool> {
+    let core = filled(alloc, false)?;
+    let again = replayed(alloc, &core)?;
+    Some(are_same(again.journal(), core.journal()) && shown(&again) == shown(&core))
+}
+
+#[test]
+fn replays_again(rt: HostRuntime) {
+    assert!(rt; is_replayed(rt.alloc()).unwrap_or(false));
+}
+
+/// Whether each entry is copied, a refused one again.
+fn are_copied(alloc: Global) -> Option<bool> {
+    let lines = entries(alloc, SEVEN_LINES)?;
+    for line in lines.as_slice() {
+        if line.copy(alloc).is_err() && line.copy(alloc).is_err() {
+            return None;
+        }
+    }
+    Some(true)
+}
+
+#[test]
+fn copies_an_entry_again(rt: HostRuntime) {
+    assert!(rt; are_copied(rt.alloc()).unwrap_or(false));
+}
+
+fn is_copied(alloc: Global) -> Option<bool> {
+    let core = open(alloc)?;
+    Some(core.grid().copy(alloc).is_ok() || core.grid().copy(alloc).is_ok())
+}
+
+#[test]
+fn copies_a_grid_again(rt: HostRuntime) {
+    assert!(rt; is_copied(rt.alloc()).unwrap_or(false));
+}
+
+fn is_counted(alloc: Global) -> Option<bool> {
+    let core = open(alloc)?;
+    Some(Counts::new(alloc, core.grid()).is_ok() || Counts::new(alloc, core.grid()).is_ok())
+}
+
+#[test]
+fn counts_again(rt: HostRuntime) {
+    assert!(rt; is_counted(rt.alloc()).unwrap_or(false));
 }

@@ -31,18 +31,20 @@ impl Lots {
         self.draw() % n
     }
 
-    /// One of these.
-    fn pick<T: Copy>(&mut self, all: &[T]) -> Option<T> {
-        let n = all.len();
-        if n == 0 {
-            return None;
+    /// One of these letters.
+    fn letter(&mut self, letters: &[u8]) -> u8 {
+        let at = self.draw() as usize % letters.len().max(1);
+        match letters.get(at) {
+            Some(letter) => *letter,
+            None => b'A',
         }
-        all.get(self.draw() as usize % n).copied()
     }
 
-    fn locator(&mut self) -> Option<Locator> {
-        let last = self.pick(b"ABCDEFGHIJKLMNOP")?;
-        Locator::new(&[b'A', b'0', b'0', b'0', b'0', last])
+    /// A flight of a leg, and one of its legs.
+    fn leg(&mut self) -> (u32, u8) {
+        let flight = self.below(4);
+        let legs: u32 = if flight < 2 { 2 } else { 3 };
+        (flight, self.below(legs) as u8)
     }
 
     /// Legs of a flight, in one case of twenty none.
@@ -50,156 +52,118 @@ impl Lots {
         if self.below(20) == 0 {
             return None;
         }
-        let flight = self.below(4);
+        let (flight, one) = self.leg();
         let legs: u32 = if flight < 2 { 2 } else { 3 };
-        let from = self.below(legs);
-        let more = if from < legs {
-            self.below(legs - from)
-        } else {
-            0
-        };
+        let other = self.below(legs) as u8;
         Some(Place {
             flight,
-            from: from as u8,
-            to: from.saturating_add(more) as u8,
+            from: one.min(other),
+            to: one.max(other),
         })
     }
 
-    /// Mostly few seats, and fewer where they may wait; now and then the most that a line can have.
-    fn seats(&mut self, code: &[u8]) -> u16 {
+    /// Up to so many seats; now and then the most that a line can have.
+    fn seats(&mut self, most: u16) -> u16 {
         if self.below(60) == 0 {
             return 999;
         }
-        let most = match code {
-            [b'N', b'N'] => 8,
-            _ => 2,
+        self.below(u32::from(most).max(1)) as u16 + 1
+    }
+
+    /// A request for seats, fewer where they may wait, and sometimes a cancellation or another code, of anything.
+    fn request(&mut self) -> Option<Work> {
+        let letter = self.letter(b"NSSSLLXZ");
+        let Some(code) = Code::new(&[letter, letter]) else {
+            return None;
         };
-        self.below(most) as u16 + 1
-    }
-
-    /// A request for seats, and sometimes a cancellation or another code, of anything.
-    fn request(&mut self) -> Option<Command> {
-        let codes: [&[u8]; 8] = [b"NN", b"SS", b"SS", b"SS", b"LL", b"LL", b"XX", b"ZZ"];
-        let code = self.pick(&codes)?;
-        let locator = self.locator()?;
-        let place = self.place();
-        Some(Command {
+        let last = self.letter(b"ABCDEFGHIJKLMNOP");
+        let Some(locator) = Locator::new(&[b'A', b'0', b'0', b'0', b'0', last]) else {
+            return None;
+        };
+        let Some(class) = Class::new(self.letter(b"FFYYYYMMMQ")) else {
+            return None;
+        };
+        Some(Work::Seats(Command {
             locator,
-            place,
-            class: self.class(b"FFYYYYMMMQ")?,
-            code: Code::new(code)?,
-            seats: self.seats(code),
-        })
+            place: self.place(),
+            class,
+            code,
+            seats: self.seats(if letter == b'N' { 8 } else { 2 }),
+        }))
     }
 
-    /// The cancellation of a live booking, of half of them whole and of one in ten of too many seats.
-    fn cancellation(&mut self, bookings: &[Live]) -> Option<Command> {
-        let Some(b) = self.pick(bookings) else {
+    /// The cancellation of a live booking.
+    fn cancellation(&mut self, bookings: &[Live]) -> Option<Work> {
+        let at = self.draw() as usize % bookings.len().max(1);
+        let Some(b) = bookings.get(at) else {
             return None;
         };
         let seats = self.seats_of(b.seats);
         let Some(code) = Code::new(b"XX") else {
             return None;
         };
-        Some(Command {
+        Some(Work::Seats(Command {
             locator: b.locator,
             place: Some(b.place),
             class: b.class,
             code,
             seats,
-        })
+        }))
     }
 
+    /// All of them in half of the cases, in one of ten too many.
     fn seats_of(&mut self, seats: u16) -> u16 {
         match self.below(10) {
             0 => seats.saturating_add(1),
-            1..=5 => seats,
-            _ => self.below(u32::from(seats).max(1)) as u16 + 1,
+            1 | 2 | 3 | 4 | 5 => seats,
+            _ => self.seats(seats),
         }
-    }
-
-    /// The next command: one of six cancels a booking, while there is one.
-    fn command(&mut self, bookings: &[Live]) -> Option<Command> {
-        if self.below(6) == 0 {
-            if let Some(command) = self.cancellation(bookings) {
-                return Some(command);
-            }
-        }
-        self.request()
     }
 
     /// Another limit of a class on a leg: mostly near what it may be, now and then the most or the least.
-    fn change(&mut self) -> Option<Change> {
-        let flight = self.below(4);
+    fn change(&mut self) -> Option<Work> {
+        let (flight, leg) = self.leg();
         let limit = match self.below(20) {
             0 => 999,
             1 => 0,
             _ => self.below(16) as u16,
         };
-        let leg = self.leg_of(flight);
-        let Some(class) = self.class(b"FYYMMQ") else {
-            return None;
+        Some(Work::Limit(Change {
+            flight,
+            leg,
+            class: Class::new(self.letter(b"FYYMMQ"))?,
+            limit,
+            wait: self.below(26) as u16,
+        }))
+    }
+
+    /// A class of a leg, or in one case of four all, to be closed or, mostly, opened.
+    fn sale(&mut self) -> Option<Work> {
+        let (flight, leg) = self.leg();
+        let class = if self.below(4) == 0 {
+            None
+        } else {
+            Class::new(self.letter(b"FYYMMQ"))
         };
-        Some(Change {
+        Some(Work::Sale(SaleChange {
             flight,
             leg,
             class,
-            limit,
-            wait: self.below(26) as u16,
-        })
-    }
-
-    /// One of the legs of a flight.
-    fn leg_of(&mut self, flight: u32) -> u8 {
-        let legs: u32 = if flight < 2 { 2 } else { 3 };
-        self.below(legs) as u8
-    }
-
-    /// The class of one of these letters.
-    fn class(&mut self, letters: &[u8]) -> Option<Class> {
-        match self.pick(letters) {
-            Some(letter) => Class::new(letter),
-            None => None,
-        }
-    }
-
-    /// A class, or in one case of four all.
-    fn class_or_all(&mut self) -> Option<Option<Class>> {
-        if self.below(4) == 0 {
-            return Some(None);
-        }
-        match self.class(b"FYYMMQ") {
-            Some(class) => Some(Some(class)),
-            None => None,
-        }
-    }
-
-    /// A class of a leg, or all, to be closed or, mostly, opened.
-    fn sale(&mut self) -> Option<SaleChange> {
-        let flight = self.below(4);
-        let Some(class) = self.class_or_all() else {
-            return None;
-        };
-        Some(SaleChange {
-            flight,
-            leg: self.leg_of(flight),
-            class,
             closed: self.below(6) == 0,
-        })
+        }))
     }
 
-    /// The next line: one of eight changes a limit, and one of twelve others closes or opens a class, for session 0.
+    /// The next line: one of eight changes a limit, one of twelve closes or opens a class, and one of six of the others cancels a booking, while there is one.
     fn work(&mut self, bookings: &[Live]) -> Option<Work> {
-        if self.below(8) == 0 {
-            return Some(Work::Limit(self.change()?));
+        match self.below(24) {
+            0 | 1 | 2 => self.change(),
+            3 | 4 => self.sale(),
+            5 | 6 | 7 if !bookings.is_empty() => self.cancellation(bookings),
+            _ => self.request(),
         }
-        if self.below(12) == 0 {
-            return Some(Work::Sale(self.sale()?));
-        }
-        Some(Work::Seats(self.command(bookings)?))
     }
 
-    /// The next line, and who asks for it.
+    /// The next line, and who asks for it: session 0 for what is the manager's.
     pub fn asked(&mut self, bookings: &[Live]) -> Option<(u8, Work)> {
         let work = self.work(bookings)?;
         let session = match work {

@@ -4,45 +4,14 @@ use std::process::Abort;
 /// Why a test failed. It refers to nothing, so that a function that may fail carries a short type.
 #[derive(Clone, Copy, Debug)]
 pub enum Why {
-    /// A growth was refused.
-    Memory,
-    /// A row that is not so: its table and its place there, both from 0.
-    Row(usize, usize),
-    JournalFull,
-    FaultyJournal,
-    Set,
-    Grid,
-    Journal,
-    Line,
-    OneLine,
-    LastLine,
-    OtherLine,
-    OtherLines,
-    Lines,
-    Asking,
-    WhatIsShown,
-    Added,
-    OnceMore,
-    Counters,
-    NoClass,
-    LimitsOfALeg,
-    RoomOfAPlace,
-    HeldSeats,
-    SpoiltLine,
-    ByFlight,
-    InParts,
-    AuditInParts,
-    EachReply,
-    Caller,
-    Asked,
-    Reply,
-    Released,
-    TheAdvices,
-    Written,
-    TheTextRead,
-    Fields,
-    Stopped,
-    FrontOfAText,
+    /// What is tried could not be made.
+    Made,
+    /// The line of this number is another, or leaves other rooms.
+    Line(u32),
+    /// One of the ways gives something else of the journal that was drawn behind so many.
+    Journal(u32),
+    /// Something that is drawn by lot did not come often.
+    Often,
 }
 
 /// Stops where this is wrong, at a place of a table or of a text.
