@@ -1,6 +1,6 @@
 -- What comes of a line of the manager or of a session in a feed.
 use Rattle.std.proofs.Common.{◌≡◌, ℕ, ◌≤◌, ◌==◌, Bool, true, false, List, [], ◌∷◌, ◌++◌, length, take, drop, ap, sym, ◌∙◌, subst, arith}
-use Rattle.std.specs.Prelude.{Some, option_to_list, set, slice_get}
+use Rattle.std.specs.Prelude.{Err, Ok, OnOk, Result, Some, is_err, option_to_list, set, slice_get}
 use Rattle.std.proofs.lemmas.Bool.Decides.{nat_tests}
 use Rattle.std.proofs.Math.Seq.{take-append_seam}
 use Rattle.desk_feed.specs.declared.progress.Progress.{Progress}
@@ -14,6 +14,7 @@ use Rattle.desk_lines.specs.declared.desk.Meaning.{Meaning}
 use Rattle.desk_stream.specs.Hearing.{ahead_of, called_by, come_to, CallsBy, ComesBy, ComesTo, HasHeardAt, IsCameTo, IsNoStranger, IsOwnCall, IsOwnOf, IsPlanned, IsRightPlan, IsSamePending, IsStrangeBy, IsStrangeTo, IsWaiting}
 use Rattle.desk_stream.specs.Meaning.{meant_by, ordered, IsMeant, IsRightMeant}
 use Rattle.desk_stream.specs.Planning.{IsComeTo, Passes, Plans}
+use Rattle.desk_stream.specs.declared.hearing.FeedFault.TheVariants.{Memory, Strange}
 use Rattle.desk_stream.specs.declared.hearing.Pending.{Pending}
 use Rattle.desk_stream.specs.declared.meant.Meant.{Meant}
 use Rattle.desk_stream.specs.declared.meant.Meant.TheVariants as meants
@@ -31,6 +32,21 @@ use Rattle.ssim_flights.specs.declared.flight.Flight.{Flight as Flown}
 -- what was added is cut off
 pub cut_turn : (old mid new : List FeedTurn) (turn : FeedTurn) → mid ≡ old ++ turn ∷ [] → new ≡ take (length old) mid → new ≡ old
 cut_turn old mid new turn more cut = cut ∙ ap (take (length old)) more ∙ take-append_seam old (turn ∷ [])
+
+-- ---- one answer is not the other
+
+pub not_strange : Memory ≡ Strange → ⊥
+not_strange h = cc h
+
+pub not_memory : Strange ≡ Memory → ⊥
+not_memory h = cc h
+
+pub not_true : false ≡ true → ⊥
+not_true h = cc h
+
+pub when_ok : {A E : Type 0} → (r : Result A E) (P : Type 0) → is_err r ≡ false → OnOk r P → P
+when_ok (Ok x) P is p = p
+when_ok (Err e) P is p = absurd (cc is)
 
 -- ---- what a line means
 

@@ -1,3 +1,2 @@
-mod Fronts
 pub mod Keeping
 pub mod Syncs

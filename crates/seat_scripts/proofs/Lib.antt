@@ -19,6 +19,7 @@ mod Accepted
 mod First
 mod Grown
 mod Made
+mod Whole
 mod Rest
 pub mod Still
 mod Again

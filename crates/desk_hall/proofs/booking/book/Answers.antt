@@ -1,3 +1,5 @@
+use Rattle.std.proofs.Common.{ap, ◌∙◌}
+use Rattle.airline_base.specs.Noting.{noted}
 use Rattle.std.proofs.lemmas.Result.{err_from_is_err_and}
 use Rattle.desk_hall.proofs.Groups.{all_booked, booking_ends, booking_front, booking_more, booking_none, booking_right, booking_room, booking_some, booking_told, none_left}
 use Rattle.desk_hall.proofs.booking.book.Goals as goal
@@ -46,3 +48,41 @@ pub returns-in_err-count-clause-front : goal.returns-in_err-count-clause-front
 returns-in_err-count-clause-front g c =
     booking_front g.D.Tape.seen g.D.Tape.may_leave g.D.Tape.unsynced g.D.Failures.failure_count c.args.serving.now c.loop-rest.serving c.args.asked.now c.loop-rest.rest.now
     c.book_group.new.serving.kept c.loop-rest.invariant c.in_err-count.ensures.front
+
+pub book_group-requires-clause-ready : goal.book_group-requires-clause-ready
+book_group-requires-clause-ready g c = c.loop-rest.invariant.is_ready
+
+pub returns-clause-counted : goal.returns-clause-counted
+returns-clause-counted g c = c.loop-rest.invariant.counted
+
+pub returns-clause-ready : goal.returns-clause-ready
+returns-clause-ready g c = c.loop-rest.invariant.is_ready
+
+pub returns-clause-front : goal.returns-clause-front
+returns-clause-front g c = c.loop-rest.invariant.grows
+
+pub returns-clause-same : goal.returns-clause-same
+returns-clause-same g c = (c.loop-rest.invariant.grid_is, c.loop-rest.invariant.cap_is)
+
+pub returns-in_err-count-clause-booked : goal.returns-in_err-count-clause-booked
+returns-in_err-count-clause-booked g c =
+    let p = err_from_is_err_and c.from_residual.result c.from_residual.ensures.1 in
+    rw p.1 tt
+
+pub returns-in_err-count-clause-counted : goal.returns-in_err-count-clause-counted
+returns-in_err-count-clause-counted g c =
+    let p = err_from_is_err_and c.from_residual.result c.from_residual.ensures.1 in
+    rw p.1 tt
+
+pub returns-in_err-count-clause-ready : goal.returns-in_err-count-clause-ready
+returns-in_err-count-clause-ready g c =
+    let p = err_from_is_err_and c.from_residual.result c.from_residual.ensures.1 in
+    rw p.1 tt
+
+pub returns-in_err-count-clause-device : goal.returns-in_err-count-clause-device
+returns-in_err-count-clause-device g c =
+    let p = err_from_is_err_and c.from_residual.result c.from_residual.ensures.1 in
+    rw (p.1, p.2) (λ device. ((c.in_err-count.ensures.device device).0, (c.in_err-count.ensures.device device).1 ∙ ap noted c.loop-rest.invariant.counted))
+
+pub returns-in_err-count-clause-same : goal.returns-in_err-count-clause-same
+returns-in_err-count-clause-same g c = (c.in_err-count.ensures.same.0 ∙ c.loop-rest.invariant.grid_is, c.in_err-count.ensures.same.1 ∙ c.loop-rest.invariant.cap_is)

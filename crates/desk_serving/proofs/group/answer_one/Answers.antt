@@ -1,5 +1,7 @@
 use Rattle.std.proofs.Common.{rules}
+use Rattle.std.proofs.lemmas.Result.{on_ok_weaker}
 use Rattle.desk_serving.proofs.Daily.{fails_by_behind_if, by_inventory, counts_none, day_as, stays_same}
+use Rattle.desk_serving.proofs.Goes.{goes_further}
 use Rattle.desk_serving.proofs.Groups.{one_apart, one_plain}
 use Rattle.desk_serving.proofs.group.answer_one.Goals as goal
 
@@ -72,3 +74,13 @@ returns-clause-stays g c = c.hear_apart.ensures.stays
 
 pub returns-clause-unsealed : goal.returns-clause-unsealed
 returns-clause-unsealed g c = c.hear_apart.ensures.unsealed
+
+pub returns-clause-goes : goal.returns-clause-goes
+returns-clause-goes g c =
+    on_ok_weaker c.hear_apart.result
+    (goes_further g.D.Tape.seen g.D.Tape.may_leave g.D.Tape.unsynced g.D.Failures.failure_count c.args.hall.now.serving
+    c.answer_heard.new.hall.serving c.hear_apart.new.hall.serving c.in_default.ensures.goes)
+    c.hear_apart.ensures.goes
+
+pub hear_apart-requires-clause-begun : goal.hear_apart-requires-clause-begun
+hear_apart-requires-clause-begun g c = c.begin_for-begun.ensures

@@ -1,5 +1,6 @@
-use Rattle.std.proofs.Common.{◌∙◌, inl, inr}
+use Rattle.std.proofs.Common.{◌∙◌, inl, inr, refl}
 use Rattle.seat_desk.specs.AuditDesk.{most_lines}
+use Rattle.seat_disk.proofs.Keeping.{no_more}
 use Rattle.seat_serving.proofs.Recovering.{beside_as_before}
 use Rattle.desk_talk.proofs.Opened.{are_viewers, as_before, cut_to, dated_to, epoch_to, era_to, keeps_to, kept_to, lost_to, named_to, no_entry, opened, ready_host, recovered_to, runs_to, sealed_to, stands_to}
 use Rattle.desk_talk.proofs.opening.open_host.Goals as goal
@@ -120,3 +121,48 @@ returns-in_default-clause-stays g c = inr (beside_as_before g.B.Tape.seen g.B.Ta
 
 pub returns-in_default-new-clause-stays : goal.returns-in_default-new-clause-stays
 returns-in_default-new-clause-stays g c = inr (beside_as_before g.B.Tape.seen g.B.Tape.may_leave g.B.Tape.unsynced c.args.beside.now)
+
+pub returns-in-Err-clause-only : goal.returns-in-Err-clause-only
+returns-in-Err-clause-only g c = no_more (g.K.Replaced.kept_may_leave c.args.seals.now)
+
+pub returns-in_default-clause-only : goal.returns-in_default-clause-only
+returns-in_default-clause-only g c = no_more (g.K.Replaced.kept_may_leave c.args.seals.now)
+
+pub returns-in_default-new-clause-only : goal.returns-in_default-new-clause-only
+returns-in_default-new-clause-only g c = no_more (g.K.Replaced.kept_may_leave c.args.seals.now)
+
+pub returns-in-Ok-go_on_sealed-clause-only : goal.returns-in-Ok-go_on_sealed-clause-only
+returns-in-Ok-go_on_sealed-clause-only g c = c.go_on_sealed.ensures.only
+
+pub returns-in-Ok-go_on_sealed-clause-passes : goal.returns-in-Ok-go_on_sealed-clause-passes
+returns-in-Ok-go_on_sealed-clause-passes g c = c.in-Ok-find_sealed.ensures.passes
+
+pub returns-clause-only : goal.returns-clause-only
+returns-clause-only g c = c.go_on_sealed.ensures.only
+
+pub returns-clause-stays : goal.returns-clause-stays
+returns-clause-stays g c = c.go_on_sealed.ensures.stays
+
+pub returns-clause-untouched : goal.returns-clause-untouched
+returns-clause-untouched g c = c.in-Err-go_on_sealed.ensures.untouched
+
+pub returns-clause-device : goal.returns-clause-device
+returns-clause-device g c = c.in-Err-go_on_sealed.ensures.device
+
+pub returns-clause-fault : goal.returns-clause-fault
+returns-clause-fault g c = λ is. absurd (c.in-Err-go_on_sealed.ensures.kind is)
+
+pub returns-in-Err-clause-fault : goal.returns-in-Err-clause-fault
+returns-in-Err-clause-fault g c = c.in-Err.ensures.fault
+
+pub returns-in-Err-clause-device : goal.returns-in-Err-clause-device
+returns-in-Err-clause-device g c = λ is. absurd (c.in-Err.ensures.kind is)
+
+pub returns-in-Err-clause-untouched : goal.returns-in-Err-clause-untouched
+returns-in-Err-clause-untouched g c = λ _. (refl, refl, refl)
+
+pub returns-in_default-clause-untouched : goal.returns-in_default-clause-untouched
+returns-in_default-clause-untouched g c = λ _. (refl, refl, refl)
+
+pub returns-in_default-new-clause-untouched : goal.returns-in_default-new-clause-untouched
+returns-in_default-new-clause-untouched g c = λ _. (refl, refl, refl)

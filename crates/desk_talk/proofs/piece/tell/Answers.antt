@@ -52,3 +52,36 @@ returns-in-Err-Untold-clause-broken g c =
 pub returns-in-Err-Untold-clause-memory : goal.returns-in-Err-Untold-clause-memory
 returns-in-Err-Untold-clause-memory g c = λ _.
     ends_untold c.args.host.now c.hear.new.self c.args.line.now (c.in-Err-Untold.ensures.untold c.in-Err-Untold.field-0-is)
+
+pub returns-in-Err-Device-clause-said : goal.returns-in-Err-Device-clause-said
+returns-in-Err-Device-clause-said g c = λ _. c.no_journal.ensures.said
+
+pub returns-in-Err-Device-clause-journal : goal.returns-in-Err-Device-clause-journal
+returns-in-Err-Device-clause-journal g c = λ _. (c.in-Err-Device.ensures.device c.in-Err-Device.field-0-is).2
+
+pub returns-in-Err-Device-clause-still : goal.returns-in-Err-Device-clause-still
+returns-in-Err-Device-clause-still g c = λ other. absurd (other c.no_journal.ensures.value)
+
+pub returns-in-Err-Device-clause-told : goal.returns-in-Err-Device-clause-told
+returns-in-Err-Device-clause-told g c = c.hear.ensures.told
+
+pub returns-in-Err-Device-clause-front : goal.returns-in-Err-Device-clause-front
+returns-in-Err-Device-clause-front g c = c.hear.ensures.front
+
+pub returns-in-Err-Untold-clause-told : goal.returns-in-Err-Untold-clause-told
+returns-in-Err-Untold-clause-told g c = c.hear.ensures.told
+
+pub returns-in-Err-Untold-clause-front : goal.returns-in-Err-Untold-clause-front
+returns-in-Err-Untold-clause-front g c = c.hear.ensures.front
+
+pub returns-clause-told : goal.returns-clause-told
+returns-clause-told g c = c.hear.ensures.told
+
+pub returns-clause-front : goal.returns-clause-front
+returns-clause-front g c = c.hear.ensures.front
+
+pub returns-clause-still : goal.returns-clause-still
+returns-clause-still g c = λ _. c.in-Ok.ensures.ready
+
+pub returns-clause-output : goal.returns-clause-output
+returns-clause-output g c = λ _. c.in-Err.ensures.device

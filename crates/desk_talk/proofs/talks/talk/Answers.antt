@@ -1,7 +1,7 @@
-use Rattle.std.proofs.Common.{◌≡◌, List, ℕ, [], refl, rules, subst, true, ◌∙◌}
+use Rattle.std.proofs.Common.{◌≡◌, List, ℕ, [], ap, refl, rules, subst, true, ◌∙◌}
 use Rattle.std.specs.Io.KnownBytes.{Appends}
 use Rattle.std.proofs.lemmas.Result.{err_from_is_err_and}
-use Rattle.airline_base.specs.Noting.{TookFront}
+use Rattle.airline_base.specs.Noting.{noted, TookFront}
 use Rattle.desk_talk.proofs.Talking.{begins_all, behind_all, front_before, grown_behind, reads_none, reads_on, ready_told, talk_is, told_before}
 use Rattle.desk_talk.proofs.Broken.{half_ready, talk_broken}
 use Rattle.desk_talk.proofs.talks.talk.Goals as goal
@@ -80,3 +80,29 @@ pub returns-in_err-turn-clause-still : goal.returns-in_err-turn-clause-still
 returns-in_err-turn-clause-still g c =
     let p = err_from_is_err_and c.from_residual.result c.from_residual.ensures.1 in
     rw (p.1, p.2) c.in_err-turn.ensures.still
+
+pub returns-in_default-clause-still : goal.returns-in_default-clause-still
+returns-in_default-clause-still g c = λ _. c.requires.ready
+
+pub returns-in_default-clause-output : goal.returns-in_default-clause-output
+returns-in_default-clause-output g c = λ _. c.in_default.ensures.device
+
+pub returns-in_err-turn-clause-memory : goal.returns-in_err-turn-clause-memory
+returns-in_err-turn-clause-memory g c =
+    let p = err_from_is_err_and c.from_residual.result c.from_residual.ensures.1 in
+    rw (p.1, p.2) c.in_err-turn.ensures.memory
+
+pub returns-in_err-turn-clause-input : goal.returns-in_err-turn-clause-input
+returns-in_err-turn-clause-input g c =
+    let p = err_from_is_err_and c.from_residual.result c.from_residual.ensures.1 in
+    rw (p.1, p.2) (λ is. c.in_err-turn.ensures.input is ∙ ap noted c.loop.invariant.1)
+
+pub returns-in_err-turn-clause-output : goal.returns-in_err-turn-clause-output
+returns-in_err-turn-clause-output g c =
+    let p = err_from_is_err_and c.from_residual.result c.from_residual.ensures.1 in
+    rw (p.1, p.2) (λ is. c.in_err-turn.ensures.output is ∙ ap noted (c.loop.invariant.0.talks.counted ∙ c.in-Ok.ensures.counted))
+
+pub returns-in_err-turn-clause-journal : goal.returns-in_err-turn-clause-journal
+returns-in_err-turn-clause-journal g c =
+    let p = err_from_is_err_and c.from_residual.result c.from_residual.ensures.1 in
+    rw (p.1, p.2) (λ is. c.in_err-turn.ensures.journal is ∙ ap noted c.loop.invariant.0.talks.tape_counted)

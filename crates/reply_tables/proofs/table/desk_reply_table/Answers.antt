@@ -25,8 +25,8 @@ pub returns-in-Ok-clause-ok : goal.returns-in-Ok-clause-ok
 returns-in-Ok-clause-ok g c =
     let read = c.in_ok-read.read in record {
       text = c.in_ok-text.text.items;
-      right = tabled c.args.form c.args.besides.now.journal (g.S.Read.remaining c.args.inputs.now.set) (g.L.Read.remaining c.args.inputs.now.limits) (g.A.Read.remaining c.args.after.now) c.args.given (g.J.Read.remaining c.args.journal.now)
-          c.args.inputs.now.first c.args.inputs.now.days c.args.today (map g.C.Read.remaining c.args.scripts.now) c.args.wanted c.in_ok-text.text.items
+      right = tabled c.args.form c.args.besides.now.journal (g.I.Read.remaining c.args.inputs.now.set) (g.I.Read.remaining c.args.inputs.now.limits) (g.I.Read.remaining c.args.after.now) c.args.given (g.I.Read.remaining c.args.journal.now)
+          c.args.inputs.now.first c.args.inputs.now.days c.args.today (map g.I.Read.remaining c.args.scripts.now) c.args.wanted c.in_ok-text.text.items
           read.flights read.scripts (take read.past read.core.journal) (drop read.past read.core.journal) c.in_ok-read.ensures.ok c.in_ok-text.ensures.ok;
       written = subst (λ (l : List ℕ). Appends (g.W.Write.contents c.args.out.now) (g.W.Write.contents c.put_all.new.out) l) c.deref.ensures.value c.in-Ok.ensures.ok;
     }
@@ -37,8 +37,8 @@ returns-clause-device g c =
     λ _. inr (record {
       counted = c.in-Err.ensures.device;
       text = c.in_ok-text.text.items;
-      right = tabled c.args.form c.args.besides.now.journal (g.S.Read.remaining c.args.inputs.now.set) (g.L.Read.remaining c.args.inputs.now.limits) (g.A.Read.remaining c.args.after.now) c.args.given (g.J.Read.remaining c.args.journal.now)
-          c.args.inputs.now.first c.args.inputs.now.days c.args.today (map g.C.Read.remaining c.args.scripts.now) c.args.wanted c.in_ok-text.text.items
+      right = tabled c.args.form c.args.besides.now.journal (g.I.Read.remaining c.args.inputs.now.set) (g.I.Read.remaining c.args.inputs.now.limits) (g.I.Read.remaining c.args.after.now) c.args.given (g.I.Read.remaining c.args.journal.now)
+          c.args.inputs.now.first c.args.inputs.now.days c.args.today (map g.I.Read.remaining c.args.scripts.now) c.args.wanted c.in_ok-text.text.items
           read.flights read.scripts (take read.past read.core.journal) (drop read.past read.core.journal) c.in_ok-read.ensures.ok c.in_ok-text.ensures.ok;
       begun = subst (λ (l : List ℕ). TookFront (g.W.Write.contents c.args.out.now) (g.W.Write.contents c.put_all.new.out) l) c.deref.ensures.value c.in-Err.ensures.front;
     })

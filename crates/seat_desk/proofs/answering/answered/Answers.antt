@@ -9,7 +9,7 @@ use Rattle.seat_desk.proofs.answering.answered.Goals as goal
 
 pub returns-in-Err-text-clause-fault : goal.returns-in-Err-text-clause-fault
 returns-in-Err-text-clause-fault g c =
-    refused_of (g.S.Read.remaining c.args.inputs.now.set) (g.L.Read.remaining c.args.inputs.now.limits) (g.J.Read.remaining c.args.journal.now) c.args.inputs.now.first c.args.inputs.now.days
+    refused_of (g.I.Read.remaining c.args.inputs.now.set) (g.I.Read.remaining c.args.inputs.now.limits) (g.I.Read.remaining c.args.journal.now) c.args.inputs.now.first c.args.inputs.now.days
     c.in-Ok.based.loaded.flights c.in-Ok.based.loaded.rows c.in-Ok.based.loaded.grid c.in-Ok-read_input.bytes.items c.deref.result.now c.args.beside.now c.in-Ok.based.basis c.is_some.result
     c.in-Ok.ensures.rows c.in-Ok.ensures.basis c.is_some.ensures c.in-Ok.ensures.ladders c.in-Ok-read_input.ensures.whole c.in-Ok-read_input.ensures.within c.deref.ensures.value
     (g.Q.Question.refuses c.args.question.now) c.in-Err-text.fault c.in_ok-agreed.ensures.ok c.in-Err-text.ensures.fault
@@ -18,16 +18,16 @@ pub returns-in-Err-clause-fault : goal.returns-in-Err-clause-fault
 returns-in-Err-clause-fault g c = λ input.
     behind_load (λ xs ys. IsRefusedLoad xs ys c.args.inputs.now.first c.args.inputs.now.days c.in-Err.fault)
     (λ xs ys zs. IsRefusedAnswer (g.Q.Question.refuses c.args.question.now) c.args.beside.now xs ys c.args.inputs.now.first c.args.inputs.now.days zs c.in-Err.fault)
-    (g.S.Read.remaining c.args.inputs.now.set) (g.L.Read.remaining c.args.inputs.now.limits) (g.J.Read.remaining c.args.journal.now) (λ xs ys zs is. inl is) (c.in-Err.ensures.fault input)
+    (g.I.Read.remaining c.args.inputs.now.set) (g.I.Read.remaining c.args.inputs.now.limits) (g.I.Read.remaining c.args.journal.now) (λ xs ys zs is. inl is) (c.in-Err.ensures.fault input)
 
 pub returns-in-Err-clause-large : goal.returns-in-Err-clause-large
 returns-in-Err-clause-large g c = λ large.
     behind_load (λ xs ys. IsFirstTooLargeLoad xs ys c.args.inputs.now.first c.args.inputs.now.days) (λ xs ys zs. IsFirstTooLarge xs ys c.args.inputs.now.first c.args.inputs.now.days zs)
-    (g.S.Read.remaining c.args.inputs.now.set) (g.L.Read.remaining c.args.inputs.now.limits) (g.J.Read.remaining c.args.journal.now) (λ xs ys zs is. inl is) (c.in-Err.ensures.first_large large)
+    (g.I.Read.remaining c.args.inputs.now.set) (g.I.Read.remaining c.args.inputs.now.limits) (g.I.Read.remaining c.args.journal.now) (λ xs ys zs is. inl is) (c.in-Err.ensures.first_large large)
 
 pub returns-in-Ok-text-clause-ok : goal.returns-in-Ok-text-clause-ok
 returns-in-Ok-text-clause-ok g c =
-    answer_of (g.S.Read.remaining c.args.inputs.now.set) (g.L.Read.remaining c.args.inputs.now.limits) (g.J.Read.remaining c.args.journal.now) c.args.inputs.now.first c.args.inputs.now.days
+    answer_of (g.I.Read.remaining c.args.inputs.now.set) (g.I.Read.remaining c.args.inputs.now.limits) (g.I.Read.remaining c.args.journal.now) c.args.inputs.now.first c.args.inputs.now.days
     c.in-Ok.based.loaded.flights c.in-Ok.based.loaded.rows c.in-Ok.based.loaded.grid c.in-Ok-read_input.bytes.items c.deref.result.now c.args.beside.now c.in-Ok.based.basis c.is_some.result
     c.in-Ok.ensures.rows c.in-Ok.ensures.basis c.is_some.ensures c.in-Ok.ensures.ladders c.in-Ok-read_input.ensures.whole c.in-Ok-read_input.ensures.within c.deref.ensures.value
     (g.Q.Question.answers c.args.question.now) c.in-Ok-text.text.items c.in_ok-agreed.ensures.ok c.in-Ok-text.ensures.ok

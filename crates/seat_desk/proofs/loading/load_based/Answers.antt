@@ -33,7 +33,7 @@ returns-in-Err-read_rows-clause-first_large g c =
 
 pub returns-in-Err-read_rows-clause-first_failed : goal.returns-in-Err-read_rows-clause-first_failed
 returns-in-Err-read_rows-clause-first_failed g c = λ failed. inr (record {
-  ahead = scheduled _ (g.L.Read.remaining c.args.inputs.now.limits) _ _ c.in-Ok.read.0 c.in-Ok.ensures.flights;
+  ahead = scheduled _ (g.I.Read.remaining c.args.inputs.now.limits) _ _ c.in-Ok.read.0 c.in-Ok.ensures.flights;
   here = c.in-Err-read_rows.ensures.device failed;
 })
 

@@ -9,7 +9,7 @@ use Rattle.seat_reports.proofs.seal.sealed.Goals as goal
 
 pub returns-in-Err-entry_over-clause-fault : goal.returns-in-Err-entry_over-clause-fault
 returns-in-Err-entry_over-clause-fault g c = λ input. inl (
-    refused_of (g.S.Read.remaining c.args.inputs.now.set) (g.L.Read.remaining c.args.inputs.now.limits) (g.J.Read.remaining c.args.journal.now) c.args.inputs.now.first c.args.inputs.now.days
+    refused_of (g.I.Read.remaining c.args.inputs.now.set) (g.I.Read.remaining c.args.inputs.now.limits) (g.I.Read.remaining c.args.journal.now) c.args.inputs.now.first c.args.inputs.now.days
     c.in-Ok.based.loaded.flights c.in-Ok.based.loaded.rows c.in-Ok.based.loaded.grid c.in-Ok-read_input.bytes.items c.in-Ok-read_input.bytes.items nothing c.in-Ok.based.basis false
     c.in-Ok.ensures.rows (λ t. c.in-Ok.ensures.basis refl) refl c.in-Ok.ensures.ladders c.in-Ok-read_input.ensures.whole c.in-Ok-read_input.ensures.within refl
     IsUnlawful c.in-Err-entry_over.fault refl c.in-Err-entry_over.ensures.fault input)
@@ -20,9 +20,9 @@ returns-in-Ok-text_of-clause-ok g c =
     let bytes = c.in-Ok-read_input.bytes.items in
     let entry = c.in-Ok-entry_over.entry in
     let is = c.in-Ok-entry_over.ensures.ok in
-    sealed_of c.args.inputs.now.first c.args.inputs.now.days entry c.args.beside.now (g.S.Read.remaining c.args.inputs.now.set) (g.L.Read.remaining c.args.inputs.now.limits) (g.J.Read.remaining c.args.journal.now)
+    sealed_of c.args.inputs.now.first c.args.inputs.now.days entry c.args.beside.now (g.I.Read.remaining c.args.inputs.now.set) (g.I.Read.remaining c.args.inputs.now.limits) (g.I.Read.remaining c.args.journal.now)
     (own_entry c.args.inputs.now.first c.args.inputs.now.days based.loaded.flights based.loaded.rows based.loaded.grid is.core is.runs is.era entry c.args.beside.now
-    c.in-Ok.ensures.ladders (g.S.Read.remaining c.args.inputs.now.set) (g.L.Read.remaining c.args.inputs.now.limits) (g.J.Read.remaining c.args.journal.now)
+    c.in-Ok.ensures.ladders (g.I.Read.remaining c.args.inputs.now.set) (g.I.Read.remaining c.args.inputs.now.limits) (g.I.Read.remaining c.args.journal.now)
     bytes bytes bytes (front_of bytes) (imprint_of (front_of bytes)) (length is.core.journal) based.basis
     c.in-Ok.ensures.rows (c.in-Ok.ensures.basis refl) c.in-Ok-read_input.ensures.whole c.in-Ok-read_input.ensures.within refl
     refl refl refl is.is_replay is.are_kept refl is.is_entry)
@@ -34,9 +34,9 @@ returns-in-Err-text_of-clause-fault g c = λ input. inr (
     let bytes = c.in-Ok-read_input.bytes.items in
     let entry = c.in-Ok-entry_over.entry in
     let is = c.in-Ok-entry_over.ensures.ok in
-    misnumbered_of c.args.inputs.now.first c.args.inputs.now.days entry c.args.beside.now (g.S.Read.remaining c.args.inputs.now.set) (g.L.Read.remaining c.args.inputs.now.limits) (g.J.Read.remaining c.args.journal.now)
+    misnumbered_of c.args.inputs.now.first c.args.inputs.now.days entry c.args.beside.now (g.I.Read.remaining c.args.inputs.now.set) (g.I.Read.remaining c.args.inputs.now.limits) (g.I.Read.remaining c.args.journal.now)
     (own_entry c.args.inputs.now.first c.args.inputs.now.days based.loaded.flights based.loaded.rows based.loaded.grid is.core is.runs is.era entry c.args.beside.now
-    c.in-Ok.ensures.ladders (g.S.Read.remaining c.args.inputs.now.set) (g.L.Read.remaining c.args.inputs.now.limits) (g.J.Read.remaining c.args.journal.now)
+    c.in-Ok.ensures.ladders (g.I.Read.remaining c.args.inputs.now.set) (g.I.Read.remaining c.args.inputs.now.limits) (g.I.Read.remaining c.args.journal.now)
     bytes bytes bytes (front_of bytes) (imprint_of (front_of bytes)) (length is.core.journal) based.basis
     c.in-Ok.ensures.rows (c.in-Ok.ensures.basis refl) c.in-Ok-read_input.ensures.whole c.in-Ok-read_input.ensures.within refl
     refl refl refl is.is_replay is.are_kept refl is.is_entry)

@@ -16,12 +16,12 @@ use Rattle.seat_run.proofs.resume.desk_resume.Goals as goal
 pub returns-clause-ok : goal.returns-clause-ok
 returns-clause-ok g c =
     all_sealed (AreTexts c.in_ok-settled.field-0.basis c.as_slice.result.now c.in_ok-settled.field-0.changes c.in_ok-settled.field-0.behind c.args.today c.in_ok-settled.field-0.earlier c.as_slice-2.result.now c.deref-2.result.now)
-    (IsSealedResumeOf c.args.besides.now.journal g.S.Read.remaining g.L.Read.remaining c.args.inputs.now c.args.today (g.A.Read.remaining c.args.after.now) c.args.given (g.R.Read.remaining c.args.resumed.now) (map g.C.Read.remaining c.args.scripts.now) (g.D.Read.remaining c.args.changes.now))
-    (λ journal entry said t. sealed_resume (g.S.Read.remaining c.args.inputs.now.set) (g.L.Read.remaining c.args.inputs.now.limits) (g.A.Read.remaining c.args.after.now) c.args.inputs.now.first c.args.inputs.now.days c.args.today
-    (map g.C.Read.remaining c.args.scripts.now) (g.D.Read.remaining c.args.changes.now) c.in_ok-asked.asked.flights c.in_ok-asked.asked.past.grid c.in_ok-asked.asked.past.journal c.in_ok-asked.asked.scripts c.in_ok-asked.asked.changes.items
+    (IsSealedResumeOf c.args.besides.now.journal g.I.Read.remaining g.I.Read.remaining c.args.inputs.now c.args.today (g.I.Read.remaining c.args.after.now) c.args.given (g.I.Read.remaining c.args.resumed.now) (map g.I.Read.remaining c.args.scripts.now) (g.I.Read.remaining c.args.changes.now))
+    (λ journal entry said t. sealed_resume (g.I.Read.remaining c.args.inputs.now.set) (g.I.Read.remaining c.args.inputs.now.limits) (g.I.Read.remaining c.args.after.now) c.args.inputs.now.first c.args.inputs.now.days c.args.today
+    (map g.I.Read.remaining c.args.scripts.now) (g.I.Read.remaining c.args.changes.now) c.in_ok-asked.asked.flights c.in_ok-asked.asked.past.grid c.in_ok-asked.asked.past.journal c.in_ok-asked.asked.scripts c.in_ok-asked.asked.changes.items
     c.in_ok-settled.field-0.settled.journal c.in_ok-settled.field-0.settled.receipts c.in_ok-settled.field-0.replies.items
     (record { is_history = c.in_ok-settled.ensures.ok; are_entries = c.in_ok-settled.ensures.entries; is_replied = c.in_ok-settled.ensures.replies })
-    c.in_ok-asked.asked.basis c.in_ok-asked.ensures.basis c.in_ok-asked.asked.imprints c.in_ok-asked.ensures.imprints c.in_ok-asked.asked.changes_imprint c.in_ok-asked.ensures.changed c.in_ok-asked.asked.behind c.in_ok-asked.asked.earlier c.args.besides.now.journal (g.R.Read.remaining c.args.resumed.now) c.args.given c.in_ok-asked.ensures.ok c.in_ok-asked.ensures.behind c.in_ok-asked.ensures.earlier journal entry said (same_texts c.in_ok-settled.field-0.basis c.in_ok-asked.asked.basis c.as_slice.result.now c.in_ok-asked.asked.imprints c.in_ok-settled.field-0.changes c.in_ok-asked.asked.changes_imprint c.in_ok-settled.field-0.behind c.in_ok-asked.asked.behind c.args.today
+    c.in_ok-asked.asked.basis c.in_ok-asked.ensures.basis c.in_ok-asked.asked.imprints c.in_ok-asked.ensures.imprints c.in_ok-asked.asked.changes_imprint c.in_ok-asked.ensures.changed c.in_ok-asked.asked.behind c.in_ok-asked.asked.earlier c.args.besides.now.journal (g.I.Read.remaining c.args.resumed.now) c.args.given c.in_ok-asked.ensures.ok c.in_ok-asked.ensures.behind c.in_ok-asked.ensures.earlier journal entry said (same_texts c.in_ok-settled.field-0.basis c.in_ok-asked.asked.basis c.as_slice.result.now c.in_ok-asked.asked.imprints c.in_ok-settled.field-0.changes c.in_ok-asked.asked.changes_imprint c.in_ok-settled.field-0.behind c.in_ok-asked.asked.behind c.args.today
     c.in_ok-settled.field-0.earlier c.in_ok-asked.asked.earlier c.as_slice-2.result.now c.in_ok-settled.field-0.settled.journal c.deref-2.result.now c.in_ok-settled.field-0.replies.items
     c.in_ok-settled.ensures.basis (c.as_slice.ensures ∙ c.in_ok-settled.ensures.imprints) c.in_ok-settled.ensures.changes c.in_ok-settled.ensures.behind c.in_ok-settled.ensures.earlier c.as_slice-2.ensures c.deref-2.ensures.value journal entry said t))
     (g.J.Replaced.named c.args.journal.now) (g.J.Replaced.named c.put_sealed.new.journal) (g.K.Replaced.named c.args.seal.now) (g.K.Replaced.named c.put_sealed.new.seal)
@@ -31,12 +31,12 @@ returns-clause-ok g c =
 pub returns-clause-large : goal.returns-clause-large
 returns-clause-large g c =
     all_unsealable (AreTexts c.in_ok-settled.field-0.basis c.as_slice.result.now c.in_ok-settled.field-0.changes c.in_ok-settled.field-0.behind c.args.today c.in_ok-settled.field-0.earlier c.as_slice-2.result.now c.deref-2.result.now)
-    (IsSealedResumeOf c.args.besides.now.journal g.S.Read.remaining g.L.Read.remaining c.args.inputs.now c.args.today (g.A.Read.remaining c.args.after.now) c.args.given (g.R.Read.remaining c.args.resumed.now) (map g.C.Read.remaining c.args.scripts.now) (g.D.Read.remaining c.args.changes.now))
-    (λ journal entry said t. sealed_resume (g.S.Read.remaining c.args.inputs.now.set) (g.L.Read.remaining c.args.inputs.now.limits) (g.A.Read.remaining c.args.after.now) c.args.inputs.now.first c.args.inputs.now.days c.args.today
-    (map g.C.Read.remaining c.args.scripts.now) (g.D.Read.remaining c.args.changes.now) c.in_ok-asked.asked.flights c.in_ok-asked.asked.past.grid c.in_ok-asked.asked.past.journal c.in_ok-asked.asked.scripts c.in_ok-asked.asked.changes.items
+    (IsSealedResumeOf c.args.besides.now.journal g.I.Read.remaining g.I.Read.remaining c.args.inputs.now c.args.today (g.I.Read.remaining c.args.after.now) c.args.given (g.I.Read.remaining c.args.resumed.now) (map g.I.Read.remaining c.args.scripts.now) (g.I.Read.remaining c.args.changes.now))
+    (λ journal entry said t. sealed_resume (g.I.Read.remaining c.args.inputs.now.set) (g.I.Read.remaining c.args.inputs.now.limits) (g.I.Read.remaining c.args.after.now) c.args.inputs.now.first c.args.inputs.now.days c.args.today
+    (map g.I.Read.remaining c.args.scripts.now) (g.I.Read.remaining c.args.changes.now) c.in_ok-asked.asked.flights c.in_ok-asked.asked.past.grid c.in_ok-asked.asked.past.journal c.in_ok-asked.asked.scripts c.in_ok-asked.asked.changes.items
     c.in_ok-settled.field-0.settled.journal c.in_ok-settled.field-0.settled.receipts c.in_ok-settled.field-0.replies.items
     (record { is_history = c.in_ok-settled.ensures.ok; are_entries = c.in_ok-settled.ensures.entries; is_replied = c.in_ok-settled.ensures.replies })
-    c.in_ok-asked.asked.basis c.in_ok-asked.ensures.basis c.in_ok-asked.asked.imprints c.in_ok-asked.ensures.imprints c.in_ok-asked.asked.changes_imprint c.in_ok-asked.ensures.changed c.in_ok-asked.asked.behind c.in_ok-asked.asked.earlier c.args.besides.now.journal (g.R.Read.remaining c.args.resumed.now) c.args.given c.in_ok-asked.ensures.ok c.in_ok-asked.ensures.behind c.in_ok-asked.ensures.earlier journal entry said (same_texts c.in_ok-settled.field-0.basis c.in_ok-asked.asked.basis c.as_slice.result.now c.in_ok-asked.asked.imprints c.in_ok-settled.field-0.changes c.in_ok-asked.asked.changes_imprint c.in_ok-settled.field-0.behind c.in_ok-asked.asked.behind c.args.today
+    c.in_ok-asked.asked.basis c.in_ok-asked.ensures.basis c.in_ok-asked.asked.imprints c.in_ok-asked.ensures.imprints c.in_ok-asked.asked.changes_imprint c.in_ok-asked.ensures.changed c.in_ok-asked.asked.behind c.in_ok-asked.asked.earlier c.args.besides.now.journal (g.I.Read.remaining c.args.resumed.now) c.args.given c.in_ok-asked.ensures.ok c.in_ok-asked.ensures.behind c.in_ok-asked.ensures.earlier journal entry said (same_texts c.in_ok-settled.field-0.basis c.in_ok-asked.asked.basis c.as_slice.result.now c.in_ok-asked.asked.imprints c.in_ok-settled.field-0.changes c.in_ok-asked.asked.changes_imprint c.in_ok-settled.field-0.behind c.in_ok-asked.asked.behind c.args.today
     c.in_ok-settled.field-0.earlier c.in_ok-asked.asked.earlier c.as_slice-2.result.now c.in_ok-settled.field-0.settled.journal c.deref-2.result.now c.in_ok-settled.field-0.replies.items
     c.in_ok-settled.ensures.basis (c.as_slice.ensures ∙ c.in_ok-settled.ensures.imprints) c.in_ok-settled.ensures.changes c.in_ok-settled.ensures.behind c.in_ok-settled.ensures.earlier c.as_slice-2.ensures c.deref-2.ensures.value journal entry said t))
     _ c.put_sealed.result c.put_sealed.ensures.large
@@ -44,19 +44,19 @@ returns-clause-large g c =
 pub returns-clause-device : goal.returns-clause-device
 returns-clause-device g c =
     all_stopped (AreTexts c.in_ok-settled.field-0.basis c.as_slice.result.now c.in_ok-settled.field-0.changes c.in_ok-settled.field-0.behind c.args.today c.in_ok-settled.field-0.earlier c.as_slice-2.result.now c.deref-2.result.now)
-    (IsSealedResumeOf c.args.besides.now.journal g.S.Read.remaining g.L.Read.remaining c.args.inputs.now c.args.today (g.A.Read.remaining c.args.after.now) c.args.given (g.R.Read.remaining c.args.resumed.now) (map g.C.Read.remaining c.args.scripts.now) (g.D.Read.remaining c.args.changes.now))
-    (λ journal entry said t. sealed_resume (g.S.Read.remaining c.args.inputs.now.set) (g.L.Read.remaining c.args.inputs.now.limits) (g.A.Read.remaining c.args.after.now) c.args.inputs.now.first c.args.inputs.now.days c.args.today
-    (map g.C.Read.remaining c.args.scripts.now) (g.D.Read.remaining c.args.changes.now) c.in_ok-asked.asked.flights c.in_ok-asked.asked.past.grid c.in_ok-asked.asked.past.journal c.in_ok-asked.asked.scripts c.in_ok-asked.asked.changes.items
+    (IsSealedResumeOf c.args.besides.now.journal g.I.Read.remaining g.I.Read.remaining c.args.inputs.now c.args.today (g.I.Read.remaining c.args.after.now) c.args.given (g.I.Read.remaining c.args.resumed.now) (map g.I.Read.remaining c.args.scripts.now) (g.I.Read.remaining c.args.changes.now))
+    (λ journal entry said t. sealed_resume (g.I.Read.remaining c.args.inputs.now.set) (g.I.Read.remaining c.args.inputs.now.limits) (g.I.Read.remaining c.args.after.now) c.args.inputs.now.first c.args.inputs.now.days c.args.today
+    (map g.I.Read.remaining c.args.scripts.now) (g.I.Read.remaining c.args.changes.now) c.in_ok-asked.asked.flights c.in_ok-asked.asked.past.grid c.in_ok-asked.asked.past.journal c.in_ok-asked.asked.scripts c.in_ok-asked.asked.changes.items
     c.in_ok-settled.field-0.settled.journal c.in_ok-settled.field-0.settled.receipts c.in_ok-settled.field-0.replies.items
     (record { is_history = c.in_ok-settled.ensures.ok; are_entries = c.in_ok-settled.ensures.entries; is_replied = c.in_ok-settled.ensures.replies })
-    c.in_ok-asked.asked.basis c.in_ok-asked.ensures.basis c.in_ok-asked.asked.imprints c.in_ok-asked.ensures.imprints c.in_ok-asked.asked.changes_imprint c.in_ok-asked.ensures.changed c.in_ok-asked.asked.behind c.in_ok-asked.asked.earlier c.args.besides.now.journal (g.R.Read.remaining c.args.resumed.now) c.args.given c.in_ok-asked.ensures.ok c.in_ok-asked.ensures.behind c.in_ok-asked.ensures.earlier journal entry said (same_texts c.in_ok-settled.field-0.basis c.in_ok-asked.asked.basis c.as_slice.result.now c.in_ok-asked.asked.imprints c.in_ok-settled.field-0.changes c.in_ok-asked.asked.changes_imprint c.in_ok-settled.field-0.behind c.in_ok-asked.asked.behind c.args.today
+    c.in_ok-asked.asked.basis c.in_ok-asked.ensures.basis c.in_ok-asked.asked.imprints c.in_ok-asked.ensures.imprints c.in_ok-asked.asked.changes_imprint c.in_ok-asked.ensures.changed c.in_ok-asked.asked.behind c.in_ok-asked.asked.earlier c.args.besides.now.journal (g.I.Read.remaining c.args.resumed.now) c.args.given c.in_ok-asked.ensures.ok c.in_ok-asked.ensures.behind c.in_ok-asked.ensures.earlier journal entry said (same_texts c.in_ok-settled.field-0.basis c.in_ok-asked.asked.basis c.as_slice.result.now c.in_ok-asked.asked.imprints c.in_ok-settled.field-0.changes c.in_ok-asked.asked.changes_imprint c.in_ok-settled.field-0.behind c.in_ok-asked.asked.behind c.args.today
     c.in_ok-settled.field-0.earlier c.in_ok-asked.asked.earlier c.as_slice-2.result.now c.in_ok-settled.field-0.settled.journal c.deref-2.result.now c.in_ok-settled.field-0.replies.items
     c.in_ok-settled.ensures.basis (c.as_slice.ensures ∙ c.in_ok-settled.ensures.imprints) c.in_ok-settled.ensures.changes c.in_ok-settled.ensures.behind c.in_ok-settled.ensures.earlier c.as_slice-2.ensures c.deref-2.ensures.value journal entry said t))
-    (FailsSealedResume c.args.besides.now g.S.Read.remaining g.L.Read.remaining c.args.inputs.now c.args.today (g.A.Read.remaining c.args.after.now) (g.R.Read.remaining c.args.resumed.now) (map g.C.Read.remaining c.args.scripts.now)
-    (HasFirstLoadFailed g.S.Read.remaining g.S.Failures.failure_count g.L.Failures.failure_count c.args.inputs.now c.read_resumed.new.inputs) (HasFailed g.A.Failures.failure_count c.args.after.now c.read_resumed.new.after)
-    (HasFailed g.R.Failures.failure_count c.args.resumed.now c.read_resumed.new.journal)
-    (HasFailedAmong c.args.today (map g.C.Read.remaining c.args.scripts.now) g.C.Failures.failure_count c.args.scripts.now c.read_resumed.new.scripts)
-    (HasFailed g.D.Failures.failure_count c.args.changes.now c.read_resumed.new.changes))
+    (FailsSealedResume c.args.besides.now g.I.Read.remaining g.I.Read.remaining c.args.inputs.now c.args.today (g.I.Read.remaining c.args.after.now) (g.I.Read.remaining c.args.resumed.now) (map g.I.Read.remaining c.args.scripts.now)
+    (HasFirstLoadFailed g.I.Read.remaining g.I.Failures.failure_count g.I.Failures.failure_count c.args.inputs.now c.read_resumed.new.inputs) (HasFailed g.I.Failures.failure_count c.args.after.now c.read_resumed.new.after)
+    (HasFailed g.I.Failures.failure_count c.args.resumed.now c.read_resumed.new.journal)
+    (HasFailedAmong c.args.today (map g.I.Read.remaining c.args.scripts.now) g.I.Failures.failure_count c.args.scripts.now c.read_resumed.new.scripts)
+    (HasFailed g.I.Failures.failure_count c.args.changes.now c.read_resumed.new.changes))
     g.J.Failures.failure_count g.J.Replaced.named g.J.Replaced.may_leave g.K.Failures.failure_count g.K.Replaced.named g.K.Replaced.may_leave g.W.Failures.failure_count g.W.Write.contents c.args.older
     c.args.journal.now c.put_sealed.new.journal c.args.seal.now c.put_sealed.new.seal c.args.out.now c.put_sealed.new.out
     c.put_sealed.result c.put_sealed.ensures.stopped
@@ -64,14 +64,14 @@ returns-clause-device g c =
 pub returns-in_err-settled-clause-fault : goal.returns-in_err-settled-clause-fault
 returns-in_err-settled-clause-fault g c =
     let p = err_from_is_err_and c.from_residual-in_err-settled.result c.from_residual-in_err-settled.ensures.1 in
-    let set = g.S.Read.remaining c.args.inputs.now.set in
-    let limits = g.L.Read.remaining c.args.inputs.now.limits in
-    let after = g.A.Read.remaining c.args.after.now in
-    let journal = g.R.Read.remaining c.args.resumed.now in
+    let set = g.I.Read.remaining c.args.inputs.now.set in
+    let limits = g.I.Read.remaining c.args.inputs.now.limits in
+    let after = g.I.Read.remaining c.args.after.now in
+    let journal = g.I.Read.remaining c.args.resumed.now in
     let first = c.args.inputs.now.first in
     let days = c.args.inputs.now.days in
-    let texts = map g.C.Read.remaining c.args.scripts.now in
-    let changing = g.D.Read.remaining c.args.changes.now in
+    let texts = map g.I.Read.remaining c.args.scripts.now in
+    let changing = g.I.Read.remaining c.args.changes.now in
     let fault = c.in_err-settled.field-0.0 in
     rw (p.1, p.2) (λ input. inl (refused_behind set limits after journal first days c.args.besides.now
     (λ xs ys older zs. ForTaken c.args.given c.args.besides.now.journal zs (λ more. IsRefusedResume xs ys first days c.args.today older more zs texts changing fault)) fault c.in_ok-asked.ensures.sealed
@@ -93,7 +93,7 @@ returns-in_err-settled-clause-only_seal g c = keeps_none c.args.keeps _ _
 
 pub put_sealed-requires-clause-scripts : goal.put_sealed-requires-clause-scripts
 put_sealed-requires-clause-scripts g c =
-    few_imprints g.C.Read.remaining c.args.scripts.now c.in_ok-asked.asked.imprints c.as_slice.result.now
+    few_imprints g.I.Read.remaining c.args.scripts.now c.in_ok-asked.asked.imprints c.as_slice.result.now
     c.in_ok-asked.ensures.imprints (c.as_slice.ensures ∙ c.in_ok-settled.ensures.imprints) c.requires.scripts.1
 
 pub put_sealed-requires-clause-imprint : goal.put_sealed-requires-clause-imprint
@@ -111,3 +111,39 @@ returns-clause-fault g c = never_of_input _ c.put_sealed.result c.put_sealed.ens
 
 pub returns-clause-judged : goal.returns-clause-judged
 returns-clause-judged g c = never_behind _ c.put_sealed.result c.put_sealed.ensures.kind
+
+pub returns-clause-named : goal.returns-clause-named
+returns-clause-named g c = c.put_sealed.ensures.sealed
+
+pub returns-clause-crash : goal.returns-clause-crash
+returns-clause-crash g c = c.put_sealed.ensures.crash
+
+pub returns-clause-denied : goal.returns-clause-denied
+returns-clause-denied g c = c.put_sealed.ensures.denied
+
+pub returns-clause-lost : goal.returns-clause-lost
+returns-clause-lost g c = c.put_sealed.ensures.lost
+
+pub returns-clause-lost_seal : goal.returns-clause-lost_seal
+returns-clause-lost_seal g c = c.put_sealed.ensures.lost_seal
+
+pub returns-clause-along : goal.returns-clause-along
+returns-clause-along g c = c.put_sealed.ensures.along
+
+pub returns-clause-only : goal.returns-clause-only
+returns-clause-only g c = c.put_sealed.ensures.only
+
+pub returns-clause-only_seal : goal.returns-clause-only_seal
+returns-clause-only_seal g c = c.put_sealed.ensures.only_seal
+
+pub returns-clause-synced : goal.returns-clause-synced
+returns-clause-synced g c = c.put_sealed.ensures.synced
+
+pub returns-clause-ahead : goal.returns-clause-ahead
+returns-clause-ahead g c = c.put_sealed.ensures.ahead
+
+pub returns-clause-told : goal.returns-clause-told
+returns-clause-told g c = c.put_sealed.ensures.told
+
+pub returns-clause-untouched : goal.returns-clause-untouched
+returns-clause-untouched g c = c.put_sealed.ensures.untouched

@@ -5,7 +5,7 @@ use Rattle.seat_scripts.proofs.against.read_against.Goals as goal
 
 pub returns-in-Err-clause-none : goal.returns-in-Err-clause-none
 returns-in-Err-clause-none g c =
-    no_journals g.S.Read.remaining g.L.Read.remaining c.args.inputs.now (g.A.Read.remaining c.args.after.now) (g.J.Read.remaining c.args.journal.now) c.args.besides.now c.args.given c.args.today (map g.C.Read.remaining c.args.scripts.now)
+    no_journals g.I.Read.remaining g.I.Read.remaining c.args.inputs.now (g.I.Read.remaining c.args.after.now) (g.I.Read.remaining c.args.journal.now) c.args.besides.now c.args.given c.args.today (map g.I.Read.remaining c.args.scripts.now)
     _ _ _ _ c.in-Err.fault c.in-Err.ensures.none
 
 pub returns-in-Err-clause-read : goal.returns-in-Err-clause-read
@@ -13,17 +13,17 @@ returns-in-Err-clause-read g c = c.in-Err.ensures.none.of_reading
 
 pub returns-in-Err-read_behind-clause-none : goal.returns-in-Err-read_behind-clause-none
 returns-in-Err-read_behind-clause-none g c =
-    no_scripts g.S.Read.remaining g.L.Read.remaining c.args.inputs.now (g.A.Read.remaining c.args.after.now) (g.J.Read.remaining c.args.journal.now) c.args.besides.now c.args.given c.args.today (map g.C.Read.remaining c.args.scripts.now)
+    no_scripts g.I.Read.remaining g.I.Read.remaining c.args.inputs.now (g.I.Read.remaining c.args.after.now) (g.I.Read.remaining c.args.journal.now) c.args.besides.now c.args.given c.args.today (map g.I.Read.remaining c.args.scripts.now)
     _ _ _ _ c.in-Err-read_behind.fault c.args.is_sealed c.in-Ok.both c.in-Ok.ensures.ok c.in-Err-read_behind.ensures.none
 
 pub returns-in-Err-read_behind-clause-read : goal.returns-in-Err-read_behind-clause-read
 returns-in-Err-read_behind-clause-read g c =
-    read_script (g.S.Read.remaining c.args.inputs.now.set) (g.L.Read.remaining c.args.inputs.now.limits) (g.A.Read.remaining c.args.after.now) (g.J.Read.remaining c.args.journal.now)
+    read_script (g.I.Read.remaining c.args.inputs.now.set) (g.I.Read.remaining c.args.inputs.now.limits) (g.I.Read.remaining c.args.after.now) (g.I.Read.remaining c.args.journal.now)
     c.in-Err-read_behind.fault (λ input. (c.in-Err-read_behind.ensures.none.refused input).of_script)
 
 pub returns-in-Ok-read_behind-clause-ok : goal.returns-in-Ok-read_behind-clause-ok
 returns-in-Ok-read_behind-clause-ok g c =
-    read_over g.S.Read.remaining g.L.Read.remaining c.args.inputs.now (g.A.Read.remaining c.args.after.now) (g.J.Read.remaining c.args.journal.now) c.args.besides.now c.args.given c.args.today (map g.C.Read.remaining c.args.scripts.now)
+    read_over g.I.Read.remaining g.I.Read.remaining c.args.inputs.now (g.I.Read.remaining c.args.after.now) (g.I.Read.remaining c.args.journal.now) c.args.besides.now c.args.given c.args.today (map g.I.Read.remaining c.args.scripts.now)
     c.args.is_sealed c.in-Ok.both c.in-Ok.ensures.ok c.in-Ok-read_behind.read
     (subst (λ (n : ℕ). n ≤ 8) (sym c.in-Ok-read_behind.ensures.count) c.requires.scripts) c.in-Ok-read_behind.ensures.ok
 

@@ -14,7 +14,7 @@ returns-in-Err-clause-none g c =
 pub returns-in-Err-limit_changes-clause-none : goal.returns-in-Err-limit_changes-clause-none
 returns-in-Err-limit_changes-clause-none g c =
     let wrong = c.in-Err-limit_changes.ensures in
-    let right : HaveRequests c.args.today (map g.C.Read.remaining c.args.scripts.now) = record { scripts = c.in-Ok.read.scripts; are_scripts = c.in-Ok.ensures.ok } in
+    let right : HaveRequests c.args.today (map g.I.Read.remaining c.args.scripts.now) = record { scripts = c.in-Ok.read.scripts; are_scripts = c.in-Ok.ensures.ok } in
     record {
       refused = λ input. inr (record { ahead = right; here = record { of_changes = wrong.changes input; unchanged = wrong.fault input } });
       large = λ is. inr (record { ahead = right; here = wrong.large is });

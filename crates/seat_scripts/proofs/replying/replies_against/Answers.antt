@@ -11,7 +11,7 @@ returns-in-Err-clause-none g c = c.in-Err.ensures.none
 pub returns-in-Err-replied_in-clause-none : goal.returns-in-Err-replied_in-clause-none
 returns-in-Err-replied_in-clause-none g c =
     let wrong = c.in-Err-replied_in in
-    no_lines g.S.Read.remaining g.L.Read.remaining c.args.inputs.now (g.A.Read.remaining c.args.after.now) (g.J.Read.remaining c.args.journal.now) c.args.besides.now c.args.given c.args.today (map g.C.Read.remaining c.args.scripts.now)
+    no_lines g.I.Read.remaining g.I.Read.remaining c.args.inputs.now (g.I.Read.remaining c.args.after.now) (g.I.Read.remaining c.args.journal.now) c.args.besides.now c.args.given c.args.today (map g.I.Read.remaining c.args.scripts.now)
     _ _ _ _ wrong.fault false c.in-Ok.read c.in-Ok.ensures.ok wrong.ensures.fault wrong.ensures.kind.0 wrong.ensures.kind.1
 
 pub returns-in-Ok-replied_in-clause-ok : goal.returns-in-Ok-replied_in-clause-ok
@@ -19,8 +19,8 @@ returns-in-Ok-replied_in-clause-ok g c =
     let read = c.in-Ok.read in
     let is = c.in-Ok.ensures.ok in
     let text = c.in-Ok-replied_in.text.items in
-    with_taken (λ more xs ys older zs. AreRepliesOver xs ys c.args.inputs.now.first c.args.inputs.now.days older more zs c.args.today (map g.C.Read.remaining c.args.scripts.now) c.args.wanted text) (g.S.Read.remaining c.args.inputs.now.set) (g.L.Read.remaining c.args.inputs.now.limits) (g.A.Read.remaining c.args.after.now) (g.J.Read.remaining c.args.journal.now) c.args.given c.args.besides.now.journal read.more is.are_taken
-    (replied (g.S.Read.remaining c.args.inputs.now.set) (g.L.Read.remaining c.args.inputs.now.limits) (g.A.Read.remaining c.args.after.now) (g.J.Read.remaining c.args.journal.now) c.args.inputs.now.first c.args.inputs.now.days read.more c.args.today (map g.C.Read.remaining c.args.scripts.now)
+    with_taken (λ more xs ys older zs. AreRepliesOver xs ys c.args.inputs.now.first c.args.inputs.now.days older more zs c.args.today (map g.I.Read.remaining c.args.scripts.now) c.args.wanted text) (g.I.Read.remaining c.args.inputs.now.set) (g.I.Read.remaining c.args.inputs.now.limits) (g.I.Read.remaining c.args.after.now) (g.I.Read.remaining c.args.journal.now) c.args.given c.args.besides.now.journal read.more is.are_taken
+    (replied (g.I.Read.remaining c.args.inputs.now.set) (g.I.Read.remaining c.args.inputs.now.limits) (g.I.Read.remaining c.args.after.now) (g.I.Read.remaining c.args.journal.now) c.args.inputs.now.first c.args.inputs.now.days read.more c.args.today (map g.I.Read.remaining c.args.scripts.now)
     read.flights read.older read.core read.scripts read.scripts refl read.more refl is.are_read c.args.wanted text c.in-Ok-replied_in.ensures.ok)
 
 pub returns-in-Ok-replied_in-clause-sealed : goal.returns-in-Ok-replied_in-clause-sealed

@@ -18,32 +18,32 @@ use Rattle.seat_scripts.proofs.resumed.read_resumed.Goals as goal
 
 pub returns-in-Err-clause-fault : goal.returns-in-Err-clause-fault
 returns-in-Err-clause-fault g c =
-    (λ input. inl (still_read (g.S.Read.remaining c.args.inputs.now.set) (g.L.Read.remaining c.args.inputs.now.limits) (g.A.Read.remaining c.args.after.now) (g.J.Read.remaining c.args.journal.now)
-    c.args.inputs.now.first c.args.inputs.now.days c.args.today (map g.C.Read.remaining c.args.scripts.now) (g.D.Read.remaining c.args.changes.now)
+    (λ input. inl (still_read (g.I.Read.remaining c.args.inputs.now.set) (g.I.Read.remaining c.args.inputs.now.limits) (g.I.Read.remaining c.args.after.now) (g.I.Read.remaining c.args.journal.now)
+    c.args.inputs.now.first c.args.inputs.now.days c.args.today (map g.I.Read.remaining c.args.scripts.now) (g.I.Read.remaining c.args.changes.now)
     c.args.besides.now c.args.given c.in-Err.fault c.in-Err.ensures.none.refused c.in-Err.ensures.read input))
 
 pub returns-in-Err-clause-large : goal.returns-in-Err-clause-large
 returns-in-Err-clause-large g c =
-    (λ large. still_large (g.S.Read.remaining c.args.inputs.now.set) (g.L.Read.remaining c.args.inputs.now.limits) (g.A.Read.remaining c.args.after.now) (g.J.Read.remaining c.args.journal.now)
-    c.args.inputs.now.first c.args.inputs.now.days c.args.today (map g.C.Read.remaining c.args.scripts.now) (g.D.Read.remaining c.args.changes.now)
+    (λ large. still_large (g.I.Read.remaining c.args.inputs.now.set) (g.I.Read.remaining c.args.inputs.now.limits) (g.I.Read.remaining c.args.after.now) (g.I.Read.remaining c.args.journal.now)
+    c.args.inputs.now.first c.args.inputs.now.days c.args.today (map g.I.Read.remaining c.args.scripts.now) (g.I.Read.remaining c.args.changes.now)
     c.args.besides.now (c.in-Err.ensures.none.large large))
 
 pub returns-in-Err-clause-judged : goal.returns-in-Err-clause-judged
 returns-in-Err-clause-judged g c =
-    (λ behind. never_of_reading (λ xs ys older zs. IsJudged None c.args.again c.args.given c.args.besides.now.journal older zs (map g.C.Read.remaining c.args.scripts.now) (g.D.Read.remaining c.args.changes.now))
-    (g.S.Read.remaining c.args.inputs.now.set) (g.L.Read.remaining c.args.inputs.now.limits) (g.A.Read.remaining c.args.after.now) (g.J.Read.remaining c.args.journal.now)
+    (λ behind. never_of_reading (λ xs ys older zs. IsJudged None c.args.again c.args.given c.args.besides.now.journal older zs (map g.I.Read.remaining c.args.scripts.now) (g.I.Read.remaining c.args.changes.now))
+    (g.I.Read.remaining c.args.inputs.now.set) (g.I.Read.remaining c.args.inputs.now.limits) (g.I.Read.remaining c.args.after.now) (g.I.Read.remaining c.args.journal.now)
     c.in-Err.fault c.in-Err.ensures.read behind)
 
 pub returns-in-Err-asked_beside-clause-fault : goal.returns-in-Err-asked_beside-clause-fault
 returns-in-Err-asked_beside-clause-fault g c =
-    let set = g.S.Read.remaining c.args.inputs.now.set in
-    let limits = g.L.Read.remaining c.args.inputs.now.limits in
-    let after = g.A.Read.remaining c.args.after.now in
-    let journal = g.J.Read.remaining c.args.journal.now in
+    let set = g.I.Read.remaining c.args.inputs.now.set in
+    let limits = g.I.Read.remaining c.args.inputs.now.limits in
+    let after = g.I.Read.remaining c.args.after.now in
+    let journal = g.I.Read.remaining c.args.journal.now in
     let first = c.args.inputs.now.first in
     let days = c.args.inputs.now.days in
-    let texts = map g.C.Read.remaining c.args.scripts.now in
-    let changing = g.D.Read.remaining c.args.changes.now in
+    let texts = map g.I.Read.remaining c.args.scripts.now in
+    let changing = g.I.Read.remaining c.args.changes.now in
     let read = c.in-Ok.read in
     let e = c.in-Ok.ensures.ok in
     let fault = c.in-Err-asked_beside.fault in
@@ -52,14 +52,14 @@ returns-in-Err-asked_beside-clause-fault g c =
 
 pub returns-in-Err-asked_beside-clause-judged : goal.returns-in-Err-asked_beside-clause-judged
 returns-in-Err-asked_beside-clause-judged g c =
-    let set = g.S.Read.remaining c.args.inputs.now.set in
-    let limits = g.L.Read.remaining c.args.inputs.now.limits in
-    let after = g.A.Read.remaining c.args.after.now in
-    let journal = g.J.Read.remaining c.args.journal.now in
+    let set = g.I.Read.remaining c.args.inputs.now.set in
+    let limits = g.I.Read.remaining c.args.inputs.now.limits in
+    let after = g.I.Read.remaining c.args.after.now in
+    let journal = g.I.Read.remaining c.args.journal.now in
     let first = c.args.inputs.now.first in
     let days = c.args.inputs.now.days in
-    let texts = map g.C.Read.remaining c.args.scripts.now in
-    let changing = g.D.Read.remaining c.args.changes.now in
+    let texts = map g.I.Read.remaining c.args.scripts.now in
+    let changing = g.I.Read.remaining c.args.changes.now in
     let read = c.in-Ok.read in
     let e = c.in-Ok.ensures.ok in
     let fault = c.in-Err-asked_beside.fault in
@@ -68,14 +68,14 @@ returns-in-Err-asked_beside-clause-judged g c =
 
 pub returns-in-Err-asked_beside-clause-large : goal.returns-in-Err-asked_beside-clause-large
 returns-in-Err-asked_beside-clause-large g c =
-    let set = g.S.Read.remaining c.args.inputs.now.set in
-    let limits = g.L.Read.remaining c.args.inputs.now.limits in
-    let after = g.A.Read.remaining c.args.after.now in
-    let journal = g.J.Read.remaining c.args.journal.now in
+    let set = g.I.Read.remaining c.args.inputs.now.set in
+    let limits = g.I.Read.remaining c.args.inputs.now.limits in
+    let after = g.I.Read.remaining c.args.after.now in
+    let journal = g.I.Read.remaining c.args.journal.now in
     let first = c.args.inputs.now.first in
     let days = c.args.inputs.now.days in
-    let texts = map g.C.Read.remaining c.args.scripts.now in
-    let changing = g.D.Read.remaining c.args.changes.now in
+    let texts = map g.I.Read.remaining c.args.scripts.now in
+    let changing = g.I.Read.remaining c.args.changes.now in
     let read = c.in-Ok.read in
     let e = c.in-Ok.ensures.ok in
     (λ large. large_behind set limits after journal first days c.args.besides.now
@@ -85,14 +85,14 @@ returns-in-Err-asked_beside-clause-large g c =
 
 pub returns-in-Err-asked_beside-clause-device : goal.returns-in-Err-asked_beside-clause-device
 returns-in-Err-asked_beside-clause-device g c =
-    let set = g.S.Read.remaining c.args.inputs.now.set in
-    let limits = g.L.Read.remaining c.args.inputs.now.limits in
-    let after = g.A.Read.remaining c.args.after.now in
-    let journal = g.J.Read.remaining c.args.journal.now in
+    let set = g.I.Read.remaining c.args.inputs.now.set in
+    let limits = g.I.Read.remaining c.args.inputs.now.limits in
+    let after = g.I.Read.remaining c.args.after.now in
+    let journal = g.I.Read.remaining c.args.journal.now in
     let first = c.args.inputs.now.first in
     let days = c.args.inputs.now.days in
-    let texts = map g.C.Read.remaining c.args.scripts.now in
-    let changing = g.D.Read.remaining c.args.changes.now in
+    let texts = map g.I.Read.remaining c.args.scripts.now in
+    let changing = g.I.Read.remaining c.args.changes.now in
     let read = c.in-Ok.read in
     let e = c.in-Ok.ensures.ok in
     (λ device. inr (inr (record {
@@ -105,14 +105,14 @@ returns-in-Err-asked_beside-clause-device g c =
 
 pub returns-in-Ok-asked_beside-clause-ok : goal.returns-in-Ok-asked_beside-clause-ok
 returns-in-Ok-asked_beside-clause-ok g c =
-    let set = g.S.Read.remaining c.args.inputs.now.set in
-    let limits = g.L.Read.remaining c.args.inputs.now.limits in
-    let after = g.A.Read.remaining c.args.after.now in
-    let journal = g.J.Read.remaining c.args.journal.now in
+    let set = g.I.Read.remaining c.args.inputs.now.set in
+    let limits = g.I.Read.remaining c.args.inputs.now.limits in
+    let after = g.I.Read.remaining c.args.after.now in
+    let journal = g.I.Read.remaining c.args.journal.now in
     let first = c.args.inputs.now.first in
     let days = c.args.inputs.now.days in
-    let texts = map g.C.Read.remaining c.args.scripts.now in
-    let changing = g.D.Read.remaining c.args.changes.now in
+    let texts = map g.I.Read.remaining c.args.scripts.now in
+    let changing = g.I.Read.remaining c.args.changes.now in
     let read = c.in-Ok.read in
     let e = c.in-Ok.ensures.ok in
     let asked = c.in-Ok-asked_beside.asked in
@@ -122,14 +122,14 @@ returns-in-Ok-asked_beside-clause-ok g c =
 
 pub returns-in-Ok-asked_beside-clause-behind : goal.returns-in-Ok-asked_beside-clause-behind
 returns-in-Ok-asked_beside-clause-behind g c =
-    let set = g.S.Read.remaining c.args.inputs.now.set in
-    let limits = g.L.Read.remaining c.args.inputs.now.limits in
-    let after = g.A.Read.remaining c.args.after.now in
-    let journal = g.J.Read.remaining c.args.journal.now in
+    let set = g.I.Read.remaining c.args.inputs.now.set in
+    let limits = g.I.Read.remaining c.args.inputs.now.limits in
+    let after = g.I.Read.remaining c.args.after.now in
+    let journal = g.I.Read.remaining c.args.journal.now in
     let first = c.args.inputs.now.first in
     let days = c.args.inputs.now.days in
-    let texts = map g.C.Read.remaining c.args.scripts.now in
-    let changing = g.D.Read.remaining c.args.changes.now in
+    let texts = map g.I.Read.remaining c.args.scripts.now in
+    let changing = g.I.Read.remaining c.args.changes.now in
     let read = c.in-Ok.read in
     let e = c.in-Ok.ensures.ok in
     let asked = c.in-Ok-asked_beside.asked in
@@ -139,14 +139,14 @@ returns-in-Ok-asked_beside-clause-behind g c =
 
 pub returns-in-Ok-asked_beside-clause-once : goal.returns-in-Ok-asked_beside-clause-once
 returns-in-Ok-asked_beside-clause-once g c =
-    let set = g.S.Read.remaining c.args.inputs.now.set in
-    let limits = g.L.Read.remaining c.args.inputs.now.limits in
-    let after = g.A.Read.remaining c.args.after.now in
-    let journal = g.J.Read.remaining c.args.journal.now in
+    let set = g.I.Read.remaining c.args.inputs.now.set in
+    let limits = g.I.Read.remaining c.args.inputs.now.limits in
+    let after = g.I.Read.remaining c.args.after.now in
+    let journal = g.I.Read.remaining c.args.journal.now in
     let first = c.args.inputs.now.first in
     let days = c.args.inputs.now.days in
-    let texts = map g.C.Read.remaining c.args.scripts.now in
-    let changing = g.D.Read.remaining c.args.changes.now in
+    let texts = map g.I.Read.remaining c.args.scripts.now in
+    let changing = g.I.Read.remaining c.args.changes.now in
     let read = c.in-Ok.read in
     let e = c.in-Ok.ensures.ok in
     let asked = c.in-Ok-asked_beside.asked in
@@ -156,14 +156,14 @@ returns-in-Ok-asked_beside-clause-once g c =
 
 pub returns-in-Ok-asked_beside-clause-earlier : goal.returns-in-Ok-asked_beside-clause-earlier
 returns-in-Ok-asked_beside-clause-earlier g c =
-    let set = g.S.Read.remaining c.args.inputs.now.set in
-    let limits = g.L.Read.remaining c.args.inputs.now.limits in
-    let after = g.A.Read.remaining c.args.after.now in
-    let journal = g.J.Read.remaining c.args.journal.now in
+    let set = g.I.Read.remaining c.args.inputs.now.set in
+    let limits = g.I.Read.remaining c.args.inputs.now.limits in
+    let after = g.I.Read.remaining c.args.after.now in
+    let journal = g.I.Read.remaining c.args.journal.now in
     let first = c.args.inputs.now.first in
     let days = c.args.inputs.now.days in
-    let texts = map g.C.Read.remaining c.args.scripts.now in
-    let changing = g.D.Read.remaining c.args.changes.now in
+    let texts = map g.I.Read.remaining c.args.scripts.now in
+    let changing = g.I.Read.remaining c.args.changes.now in
     let read = c.in-Ok.read in
     let e = c.in-Ok.ensures.ok in
     let asked = c.in-Ok-asked_beside.asked in
@@ -173,14 +173,14 @@ returns-in-Ok-asked_beside-clause-earlier g c =
 
 pub returns-in-Ok-asked_beside-clause-legs : goal.returns-in-Ok-asked_beside-clause-legs
 returns-in-Ok-asked_beside-clause-legs g c =
-    let set = g.S.Read.remaining c.args.inputs.now.set in
-    let limits = g.L.Read.remaining c.args.inputs.now.limits in
-    let after = g.A.Read.remaining c.args.after.now in
-    let journal = g.J.Read.remaining c.args.journal.now in
+    let set = g.I.Read.remaining c.args.inputs.now.set in
+    let limits = g.I.Read.remaining c.args.inputs.now.limits in
+    let after = g.I.Read.remaining c.args.after.now in
+    let journal = g.I.Read.remaining c.args.journal.now in
     let first = c.args.inputs.now.first in
     let days = c.args.inputs.now.days in
-    let texts = map g.C.Read.remaining c.args.scripts.now in
-    let changing = g.D.Read.remaining c.args.changes.now in
+    let texts = map g.I.Read.remaining c.args.scripts.now in
+    let changing = g.I.Read.remaining c.args.changes.now in
     let read = c.in-Ok.read in
     let e = c.in-Ok.ensures.ok in
     let asked = c.in-Ok-asked_beside.asked in
@@ -229,18 +229,18 @@ pub returns-in-Ok-asked_beside-clause-basis : goal.returns-in-Ok-asked_beside-cl
 returns-in-Ok-asked_beside-clause-basis g c =
     let e = c.in-Ok.ensures.ok in
     let is = c.in-Ok-asked_beside.ensures.ok in
-    subst (λ (b : Basis). IsBasisOf g.S.Read.remaining g.L.Read.remaining c.args.inputs.now b) (sym is.basis_is) (e.is_basis refl)
+    subst (λ (b : Basis). IsBasisOf g.I.Read.remaining g.I.Read.remaining c.args.inputs.now b) (sym is.basis_is) (e.is_basis refl)
 
 pub returns-in-Ok-asked_beside-clause-imprints : goal.returns-in-Ok-asked_beside-clause-imprints
 returns-in-Ok-asked_beside-clause-imprints g c =
-    let texts = map g.C.Read.remaining c.args.scripts.now in
+    let texts = map g.I.Read.remaining c.args.scripts.now in
     let e = c.in-Ok.ensures.ok in
     let is = c.in-Ok-asked_beside.ensures.ok in
     subst (λ (i : List (Option Imprint)). AreImprints texts i) (sym is.imprints_are) e.are_imprints
 
 pub returns-in-Ok-asked_beside-clause-changed : goal.returns-in-Ok-asked_beside-clause-changed
 returns-in-Ok-asked_beside-clause-changed g c =
-    let changing = g.D.Read.remaining c.args.changes.now in
+    let changing = g.I.Read.remaining c.args.changes.now in
     let is = c.in-Ok-asked_beside.ensures.ok in
     subst (λ (i : Option Imprint). IsImprintOf changing i) (sym is.imprint_is) is.are_beside.is_imprint
 

@@ -8,13 +8,13 @@ use Rattle.seat_scripts.proofs.starting.started.Goals as goal
 
 pub returns-in-Err-clause-none : goal.returns-in-Err-clause-none
 returns-in-Err-clause-none g c =
-    no_load g.S.Read.remaining g.L.Read.remaining c.args.inputs.now (g.A.Read.remaining c.args.after.now) c.args.beside.now _ _ c.in-Err.fault
+    no_load g.I.Read.remaining g.I.Read.remaining c.args.inputs.now (g.I.Read.remaining c.args.after.now) c.args.beside.now _ _ c.in-Err.fault
     c.in-Err.ensures.fault c.in-Err.ensures.first_large c.in-Err.ensures.first_failed
 
 pub returns-clause-none : goal.returns-clause-none
 returns-clause-none g c =
     let based = c.in-Ok.based in
-    no_past g.S.Read.remaining g.L.Read.remaining c.args.inputs.now (g.A.Read.remaining c.args.after.now) c.args.beside.now _ _ c.in-Err-replayed_beside.fault
+    no_past g.I.Read.remaining g.I.Read.remaining c.args.inputs.now (g.I.Read.remaining c.args.after.now) c.args.beside.now _ _ c.in-Err-replayed_beside.fault
     based.loaded.flights based.loaded.grid based.basis c.in-Ok.ensures.ok (c.in-Ok.ensures.basis refl)
     c.in-Err-replayed_beside.ensures.fault c.in-Err-replayed_beside.ensures.large c.in-Err-replayed_beside.ensures.device
 
@@ -25,9 +25,9 @@ returns-in-Ok-replayed_beside-clause-ok g c =
     let read = c.in-Ok-replayed_beside.ensures in
     let grid = sym read.grid in
     record {
-      is_loaded = subst (λ (l : Ladders). IsLoadedOf g.S.Read.remaining g.L.Read.remaining c.args.inputs.now loaded.flights l) grid c.in-Ok.ensures.ok;
-      is_past = subst (λ (l : Ladders). IfSome (g.A.Read.remaining c.args.after.now) (IsPast l c.in-Ok-replayed_beside.read.past.journal)) grid read.past;
-      agree = agrees (g.S.Read.remaining c.args.inputs.now.set) (g.L.Read.remaining c.args.inputs.now.limits) (g.A.Read.remaining c.args.after.now) c.args.inputs.now.first c.args.inputs.now.days
+      is_loaded = subst (λ (l : Ladders). IsLoadedOf g.I.Read.remaining g.I.Read.remaining c.args.inputs.now loaded.flights l) grid c.in-Ok.ensures.ok;
+      is_past = subst (λ (l : Ladders). IfSome (g.I.Read.remaining c.args.after.now) (IsPast l c.in-Ok-replayed_beside.read.past.journal)) grid read.past;
+      agree = agrees (g.I.Read.remaining c.args.inputs.now.set) (g.I.Read.remaining c.args.inputs.now.limits) (g.I.Read.remaining c.args.after.now) c.args.inputs.now.first c.args.inputs.now.days
           loaded.flights loaded.grid c.args.beside.now based.basis c.in-Ok.ensures.ok (c.in-Ok.ensures.basis refl) read.sealed;
       is_known = read.last;
       is_basis = c.in-Ok.ensures.basis refl;

@@ -4,5 +4,5 @@ use Rattle.seat_shards.proofs.auditing.audited.Goals as goal
 
 pub returns-in-Ok-audit_line-clause-ok : goal.returns-in-Ok-audit_line-clause-ok
 returns-in-Ok-audit_line-clause-ok g c =
-    says_totals g.S.Read.remaining g.L.Read.remaining c.args.inputs.now (map g.J.Read.remaining c.args.journals.now) c.in-Ok.totals c.in-Ok-audit_line.line.items
+    says_totals g.I.Read.remaining g.I.Read.remaining c.args.inputs.now (map g.I.Read.remaining c.args.journals.now) c.in-Ok.totals c.in-Ok-audit_line.line.items
     c.in-Ok.ensures.ok c.in-Ok-audit_line.ensures

@@ -4,12 +4,12 @@ use Rattle.seat_shards.proofs.auditing.totalled.Goals as goal
 
 pub returns-clause-ok : goal.returns-clause-ok
 returns-clause-ok g c =
-    answers_totals g.S.Read.remaining g.L.Read.remaining c.args.inputs.now (map g.J.Read.remaining c.args.journals.now) c.in-Ok.loaded.flights c.in-Ok.loaded.rows
+    answers_totals g.I.Read.remaining g.I.Read.remaining c.args.inputs.now (map g.I.Read.remaining c.args.journals.now) c.in-Ok.loaded.flights c.in-Ok.loaded.rows
     c.in-Ok.loaded.grid c.totalled_over.result c.in-Ok.ensures.rows c.in-Ok.ensures.ladders c.totalled_over.ensures.ok
 
 pub returns-clause-fault : goal.returns-clause-fault
 returns-clause-fault g c =
-    answers_refusal g.S.Read.remaining g.L.Read.remaining c.args.inputs.now (map g.J.Read.remaining c.args.journals.now) c.in-Ok.loaded.flights c.in-Ok.loaded.rows
+    answers_refusal g.I.Read.remaining g.I.Read.remaining c.args.inputs.now (map g.I.Read.remaining c.args.journals.now) c.in-Ok.loaded.flights c.in-Ok.loaded.rows
     c.in-Ok.loaded.grid c.totalled_over.result c.in-Ok.ensures.rows c.in-Ok.ensures.ladders c.totalled_over.ensures.kind c.totalled_over.ensures.fault
 
 pub returns-clause-large : goal.returns-clause-large
@@ -17,6 +17,6 @@ returns-clause-large g c = never_too_large _ c.totalled_over.result c.totalled_o
 
 pub returns-clause-device : goal.returns-clause-device
 returns-clause-device g c =
-    answers_failure g.S.Read.remaining g.L.Read.remaining g.S.Failures.failure_count g.L.Failures.failure_count g.J.Read.remaining g.J.Failures.failure_count
+    answers_failure g.I.Read.remaining g.I.Read.remaining g.I.Failures.failure_count g.I.Failures.failure_count g.I.Read.remaining g.I.Failures.failure_count
     c.args.inputs.now c.load.new.inputs c.args.journals.now c.totalled_over.new.journals c.in-Ok.loaded.flights c.in-Ok.loaded.rows c.in-Ok.loaded.grid
     c.totalled_over.result c.in-Ok.ensures.rows c.in-Ok.ensures.ladders c.totalled_over.ensures.device

@@ -65,3 +65,24 @@ returns-clause-read g c =
     subst (λ (feed : Feeding g.row.D.Denot). c.step_of-behind.result.0 ≡ read_behind feed c.args.line.now) c.self.view_is
     (read_to old c.args.line.now c.count.new.reading c.lead_of.result c.step_of-behind.result c.count.ensures c.lead_of.ensures.value
     c.step_of-behind.ensures.value)
+
+pub hear_step-requires-clause-days : goal.hear_step-requires-clause-days
+hear_step-requires-clause-days g c = c.self.invariant.1
+
+pub hear_step-requires-clause-desks : goal.hear_step-requires-clause-desks
+hear_step-requires-clause-desks g c = c.self.invariant.0.desks_are
+
+pub hear_step-requires-clause-grid : goal.hear_step-requires-clause-grid
+hear_step-requires-clause-grid g c = c.self.invariant.0.grid_is
+
+pub hear_step-requires-clause-right : goal.hear_step-requires-clause-right
+hear_step-requires-clause-right g c = c.step_of-behind.ensures.right
+
+pub hear_step-requires-clause-served : goal.hear_step-requires-clause-served
+hear_step-requires-clause-served g c = c.self.invariant.0.served_is
+
+pub hear_step-requires-clause-waiting : goal.hear_step-requires-clause-waiting
+hear_step-requires-clause-waiting g c = c.self.invariant.0.waiting
+
+pub step_of-behind-requires-clause-right : goal.step_of-behind-requires-clause-right
+step_of-behind-requires-clause-right g c = c.lead_of.ensures.right
