@@ -26,13 +26,13 @@ use std::thread::Threads;
 /// which more must be known of it than its bytes; and last each must be a legal history, and no two may have a line of one flight. The first days are in
 /// 2000 to 2099, and each season has 1 to 366.
 #[tactic(auto, using(crate::proofs::Onto::unread_new, crate::proofs::Onto::unread_old, crate::proofs::Onto::unread_journal, crate::proofs::Onto::unmade_onto, crate::proofs::JoinFailing::failed_new, crate::proofs::JoinFailing::failed_old, crate::proofs::JoinFailing::failed_journal, crate::proofs::JoinFailing::failed_made))]
-pub fn desk_carry_joined<R: Threads + Sync, S: NotedRead, L: NotedRead, J: NotedRead>(
+pub fn desk_carry_joined<R: Threads + Sync, I: NotedRead>(
     rt: &R,
     alloc: Global,
     asked: &CarryAsked<'_>,
-    from: &mut Inputs<S, L>,
-    to: &mut Inputs<S, L>,
-    journals: &mut [J],
+    from: &mut Inputs<I, I>,
+    to: &mut Inputs<I, I>,
+    journals: &mut [I],
     besides: &[Beside<'_>],
 ) -> Result<JoinedCarriage, JoinFault>
     requires from_first { IsOfCentury from.old.first }
@@ -44,11 +44,11 @@ pub fn desk_carry_joined<R: Threads + Sync, S: NotedRead, L: NotedRead, J: Noted
     requires some { 1 ≤ length besides.now }
     ensures imprint { IfOk result (λ c. c.carriage.entry.journal.imprint ≡ imprint_of (front_of c.carriage.text)) }
     ensures as_many { IfOk result (λ c. length c.others + 1 ≡ length besides.now) }
-    ensures ok { IfOk result (λ c. IsOverAll S.remaining L.remaining from.old to.old (map J.remaining journals.old)
+    ensures ok { IfOk result (λ c. IsOverAll I.remaining I.remaining from.old to.old (map I.remaining journals.old)
         (λ news file basis olds grid under texts. IsJoinedMade asked.now besides.now news file basis olds grid under texts c)) }
-    ensures fault { IfErr result (IsUnjoined S.remaining L.remaining from.old to.old (map J.remaining journals.old) besides.now asked.now) }
-    ensures device { IfErr result (HasJoinFailed S.remaining L.remaining S.failure_count L.failure_count J.failure_count from.old from.new
-        to.old to.new besides.now (map J.remaining journals.old) journals.old journals.new) }
+    ensures fault { IfErr result (IsUnjoined I.remaining I.remaining from.old to.old (map I.remaining journals.old) besides.now asked.now) }
+    ensures device { IfErr result (HasJoinFailed I.remaining I.remaining I.failure_count I.failure_count I.failure_count from.old from.new
+        to.old to.new besides.now (map I.remaining journals.old) journals.old journals.new) }
 {
     let new = match season_of(alloc, true, to) {
         Ok(new) => new,
@@ -70,18 +70,18 @@ pub fn desk_carry_joined<R: Threads + Sync, S: NotedRead, L: NotedRead, J: Noted
 
 /// A season, read and checked.
 #[tactic(auto, using(crate::proofs::Seasons::season_is, crate::proofs::Seasons::has_legs, crate::proofs::Seasons::unread_season, crate::proofs::Seasons::failed_season))]
-fn season_of<S: NotedRead, L: NotedRead>(
+fn season_of<I: NotedRead>(
     alloc: Global,
     is_new: bool,
-    inputs: &mut Inputs<S, L>,
+    inputs: &mut Inputs<I, I>,
 ) -> Result<Based, JoinFault>
     requires first { IsOfCentury inputs.old.first }
     requires days { (1 ≤ inputs.old.days) × (inputs.old.days ≤ 366) }
-    ensures ok { IfOk result (λ b. IsSeason S.remaining L.remaining inputs.old b.loaded.flights b.loaded.grid b.basis) }
+    ensures ok { IfOk result (λ b. IsSeason I.remaining I.remaining inputs.old b.loaded.flights b.loaded.grid b.basis) }
     ensures legs { IfOk result (λ b. HasLegsOf b.loaded.grid b.loaded.flights) }
     ensures grid { IfOk result (λ b. IsGridOf b.loaded.flights b.loaded.grid) }
-    ensures fault { IfErr result (IsUnreadSeason S.remaining L.remaining inputs.old is_new) }
-    ensures device { IfErr result (HasSeasonFailed S.remaining S.failure_count L.failure_count inputs.old inputs.new is_new) }
+    ensures fault { IfErr result (IsUnreadSeason I.remaining I.remaining inputs.old is_new) }
+    ensures device { IfErr result (HasSeasonFailed I.remaining I.failure_count I.failure_count inputs.old inputs.new is_new) }
 {
     match load_based(alloc, inputs, true) {
         Ok(based) => Ok(based),

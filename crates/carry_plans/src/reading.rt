@@ -26,13 +26,13 @@ use std::thread::Threads;
 /// last the journal with what stands beside it, by which more must be known of it than its bytes. The first days are in 2000 to 2099, and each
 /// season has 1 to 366.
 #[tactic(auto, using(crate::proofs::Makes::has_legs, crate::proofs::Outcomes::carried_onto, crate::proofs::Outcomes::refused_new, crate::proofs::Outcomes::refused_old, crate::proofs::Outcomes::refused_made, crate::proofs::Failing::failed_new, crate::proofs::Failing::failed_old, crate::proofs::Failing::failed_made))]
-pub fn desk_carry<R: Threads + Sync, S: NotedRead, L: NotedRead, J: NotedRead>(
+pub fn desk_carry<R: Threads + Sync, I: NotedRead>(
     rt: &R,
     alloc: Global,
     asked: &CarryAsked<'_>,
-    from: &mut Inputs<S, L>,
-    to: &mut Inputs<S, L>,
-    journal: &mut J,
+    from: &mut Inputs<I, I>,
+    to: &mut Inputs<I, I>,
+    journal: &mut I,
     beside: &Beside<'_>,
 ) -> Result<Carriage, CarryFault>
     requires from_first { IsOfCentury from.old.first }
@@ -41,9 +41,9 @@ pub fn desk_carry<R: Threads + Sync, S: NotedRead, L: NotedRead, J: NotedRead>(
     requires to_days { (1 ≤ to.old.days) × (to.old.days ≤ 366) }
     requires rows { length asked.now.protections.now < 2 ^ 32 }
     ensures imprint { IfOk result (λ c. c.entry.journal.imprint ≡ imprint_of (front_of c.text)) }
-    ensures ok { IfOk result (IsCarryOf S.remaining L.remaining from.old to.old (J.remaining journal.old) beside.now asked.now) }
-    ensures fault { IfErr result (IsUncarried S.remaining L.remaining from.old to.old (J.remaining journal.old) beside.now asked.now) }
-    ensures device { IfErr result (HasFailedIn S.remaining L.remaining S.failure_count L.failure_count J.failure_count from.old from.new to.old to.new
+    ensures ok { IfOk result (IsCarryOf I.remaining I.remaining from.old to.old (I.remaining journal.old) beside.now asked.now) }
+    ensures fault { IfErr result (IsUncarried I.remaining I.remaining from.old to.old (I.remaining journal.old) beside.now asked.now) }
+    ensures device { IfErr result (HasFailedIn I.remaining I.remaining I.failure_count I.failure_count I.failure_count from.old from.new to.old to.new
         journal.old journal.new) }
 {
     let new = match load_based(alloc, to, true) {
@@ -70,19 +70,19 @@ struct OldRead {
 
 /// Reads the old season, and a journal that agrees with what stands beside it.
 #[tactic(auto, using(crate::proofs::OldReads::read_of, crate::proofs::OldReads::refused_load, crate::proofs::OldReads::refused_size, crate::proofs::OldReads::refused_seal, crate::proofs::OldReads::unknown_of, crate::proofs::Failing::failed_load, crate::proofs::Failing::failed_journal, crate::proofs::Failing::failed_seal, crate::proofs::Failing::failed_unsealed))]
-fn old_read<S: NotedRead, L: NotedRead, J: NotedRead>(
+fn old_read<I: NotedRead>(
     alloc: Global,
-    from: &mut Inputs<S, L>,
-    journal: &mut J,
+    from: &mut Inputs<I, I>,
+    journal: &mut I,
     beside: &Beside<'_>,
 ) -> Result<OldRead, CarryFault>
     requires first { IsOfCentury from.old.first }
     requires days { (1 ≤ from.old.days) × (from.old.days ≤ 366) }
-    ensures read { IfOk result (λ r. IsFrom S.remaining L.remaining from.old (J.remaining journal.old) beside.now (IsOldRead beside.now r)) }
+    ensures read { IfOk result (λ r. IsFrom I.remaining I.remaining from.old (I.remaining journal.old) beside.now (IsOldRead beside.now r)) }
     ensures grid { IfOk result (λ r. IsGridOf r.loaded.flights r.loaded.grid) }
     ensures size { IfOk result (λ r. length r.bytes.items ≤ most_journal_bytes) }
-    ensures fault { IfErr result (IsUnread S.remaining L.remaining from.old (J.remaining journal.old) beside.now) }
-    ensures device { IfErr result (HasOldFailed S.remaining L.remaining S.failure_count L.failure_count J.failure_count from.old from.new
+    ensures fault { IfErr result (IsUnread I.remaining I.remaining from.old (I.remaining journal.old) beside.now) }
+    ensures device { IfErr result (HasOldFailed I.remaining I.remaining I.failure_count I.failure_count I.failure_count from.old from.new
         journal.old journal.new) }
 {
     let old = match load_based(alloc, from, true) {

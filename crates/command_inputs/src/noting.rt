@@ -152,7 +152,7 @@ pub fn last_entry(text: &[u8]) -> Option<Sealed> {
 }
 
 /// Says under which name OUT's old bytes are kept, and how a run goes on from a journal. A seal that is kept without a journal is told too.
-pub fn tell_kept(rt: &HostRuntime, journal: &JournalFile<'_>, seal: &SealOut) {
+pub fn tell_kept(rt: &HostRuntime, journal: &JournalFile, seal: &SealOut) {
     if !journal.is_put() {
         return;
     }

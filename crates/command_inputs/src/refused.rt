@@ -45,7 +45,7 @@ pub fn sort_out_as(
 pub fn sort_out_into(
     rt: &HostRuntime,
     scripts: &mut Vec<Input>,
-    list: &mut ListFile<'_>,
+    list: &mut ListFile,
     goes_on: bool,
 ) -> Result<(), Refusal>
     requires few { length scripts.old.items ≤ 8 }
@@ -62,7 +62,7 @@ pub fn sort_out_into(
 fn sort_out_behind(
     rt: &HostRuntime,
     scripts: &mut Vec<Input>,
-    list: &mut ListFile<'_>,
+    list: &mut ListFile,
     found: &[u8],
     goes_on: bool,
 ) -> Result<(), Refusal>
@@ -82,7 +82,7 @@ fn sort_out_behind(
 }
 
 /// What stands in the place of a list, which is a list too, or nothing: nothing else is replaced.
-fn standing_in(rt: &HostRuntime, list: &ListFile<'_>) -> Result<Vec<u8>, Refusal>
+fn standing_in(rt: &HostRuntime, list: &ListFile) -> Result<Vec<u8>, Refusal>
     ensures within { IfOk result (λ found. length found.items < 2 ^ 31) }
     ensures list { IfOk result (λ found. IsTrue (is_list found.items)) }
 {
@@ -96,7 +96,7 @@ fn standing_in(rt: &HostRuntime, list: &ListFile<'_>) -> Result<Vec<u8>, Refusal
 }
 
 /// Says that lines were refused, and where they stand.
-pub fn tell_refused(rt: &HostRuntime, list: &ListFile<'_>) {
+pub fn tell_refused(rt: &HostRuntime, list: &ListFile) {
     let rows = list.rows_put();
     if rows > 0 {
         let file = Shown { name: list.name() };

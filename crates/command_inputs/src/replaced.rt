@@ -6,7 +6,7 @@ use std::fmt;
 
 /// Tells which seal stood there, where it had other bytes than the one that is written, and where its runs are known no more. Of one that
 /// stays as it was nothing is told.
-pub fn tell_replaced(rt: &HostRuntime, journal: &str, stood: &SealFile, written: &SealOut<'_>) {
+pub fn tell_replaced(rt: &HostRuntime, journal: &str, stood: &SealFile, written: &SealOut) {
     let Some(stood) = stood.as_beside().text else {
         return;
     };

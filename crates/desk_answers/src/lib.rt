@@ -9,6 +9,7 @@ mod faults;
 mod heard;
 mod hearing;
 pub mod laws;
+mod look_parts;
 mod looking;
 mod open_host;
 mod placing;

@@ -1,15 +1,16 @@
 //! A look at the seats that are left.
-ghost use Rattle.std.specs.Prelude.{◌≡◌, ◌==◌, ◌++◌, IfOk, IfSome, OnOk, decimal};
+ghost use Rattle.std.specs.Prelude.{◌≡◌, ◌==◌, ◌++◌, IfOk, IfSome, OnOk};
 ghost use Rattle.ssim_flights.specs.Places.{place_wanted};
 ghost use Rattle.flight_days.specs.Leaving.{AreDaysOf};
-ghost use Rattle.seat_desk.specs.FlightsDesk.{IsText};
+ghost use Rattle.seat_desk.specs.FlightsDesk.{designator_text, IsText};
 ghost use Rattle.seat_desk.specs.Loading.{IsGridOf};
 ghost use Rattle.seat_nesting.specs.Nesting.{Fits};
-ghost use Rattle.desk_answers.specs.Looks.{class_text, classes_text, flight_text, left_text, wanted_at, wanted_on, IsAhead, IsDayLook, IsFlightLine, IsFoundLine, IsLookLine, IsNoneLine, IsOwnLine, IsPlaceLine, IsSaidOf, IsSeen};
+ghost use Rattle.desk_answers.specs.Looks.{class_text, classes_text, wanted_at, wanted_on, IsAhead, IsDayLook, IsFlightLine, IsFoundLine, IsLookLine, IsNoneLine, IsOwnLine, IsPlaceLine, IsSaidOf, IsSeen};
 
+use crate::look_parts::{asked_part, flight_part, left_part, lines_part};
 use crate::seats::Seats;
 use airimp_lines::{FlightClass, Look};
-use airline_base::{Class, Memory, Place};
+use airline_base::{Memory, Place};
 use flight_days::DayFlights;
 use seat_desk::{put, put_designator, put_number};
 use seat_nesting::Step;
@@ -51,12 +52,8 @@ fn look_line<S: Seats>(
         text.items) }
 {
     let place = served.find(&wanted_at(flight, look));
-    let mut name = Vec::new(alloc);
-    put_flight(&mut name, flight)?;
-    let mut text = ahead(alloc, seats, look, name.as_slice())?;
-    put(&mut text, b" ")?;
-    put_left(&mut text, seats, place, flight.class)?;
-    put(&mut text, b"\n")?;
+    let mut text = ahead(alloc, seats, look, flight_part(flight).as_slice())?;
+    put(&mut text, left_part(seats, place, flight.class).as_slice())?;
     Ok(text)
 }
 
@@ -100,15 +97,9 @@ fn ahead<S: Seats>(alloc: Global, seats: &S, look: &Look, flight: &[u8]) -> Resu
     ensures { IfOk result (λ text. IsAhead (S.count seats.now) look.now flight.now text.items) }
 {
     let mut text = Vec::new(alloc);
-    put(&mut text, b"LOOK ")?;
-    put_number(&mut text, u64::from(seats.lines_seen()))?;
-    put(&mut text, b" ")?;
+    put(&mut text, lines_part(seats.lines_seen()).as_slice())?;
     put(&mut text, flight)?;
-    put(&mut text, b" ")?;
-    put(&mut text, &look.day.bytes())?;
-    put(&mut text, b" ")?;
-    put(&mut text, &look.board.letters())?;
-    put(&mut text, &look.off.letters())?;
+    put(&mut text, asked_part(look.day.bytes(), look).as_slice())?;
     Ok(text)
 }
 
@@ -204,11 +195,24 @@ fn place_line<S: Seats>(
     ensures { IfOk result (λ text. IsPlaceLine (S.ladders seats.now) (S.state seats.now) (S.count seats.now) look.now flight.now place
         text.items) }
 {
-    let mut name = Vec::new(alloc);
-    put_designator(&mut name, flight)?;
-    let mut text = ahead(alloc, seats, look, name.as_slice())?;
+    let mut text = flight_ahead(alloc, seats, look, flight)?;
     put_classes(&mut text, seats, place)?;
     put(&mut text, b"\n")?;
+    Ok(text)
+}
+
+// What stands ahead of the seats of a flight.
+fn flight_ahead<S: Seats>(
+    alloc: Global,
+    seats: &S,
+    look: &Look,
+    flight: &Flight,
+) -> Result<Vec<u8>, Memory>
+    ensures { IfOk result (λ text. IsAhead (S.count seats.now) look.now (designator_text flight.now) text.items) }
+{
+    let mut name = Vec::new(alloc);
+    put_designator(&mut name, flight)?;
+    let text = ahead(alloc, seats, look, name.as_slice())?;
     Ok(text)
 }
 
@@ -248,39 +252,6 @@ fn none_line<S: Seats>(alloc: Global, seats: &S, look: &Look) -> Result<Vec<u8>,
     let mut text = ahead(alloc, seats, look, b"-")?;
     put(&mut text, b" -\n")?;
     Ok(text)
-}
-
-fn put_flight(text: &mut Vec<u8>, flight: &FlightClass) -> Result<(), Memory>
-    ensures { OnOk result (text.new.items ≡ text.old.items ++ flight_text flight.now) }
-{
-    put(text, &flight.airline.characters())?;
-    put_number(text, u64::from(flight.number))?;
-    match flight.suffix {
-        Some(letter) => put(text, &[letter])?,
-        None => {}
-    }
-    Ok(())
-}
-
-// The class and the seats that are left, or a stroke where there is no place.
-fn put_left<S: Seats>(
-    text: &mut Vec<u8>,
-    seats: &S,
-    place: Option<Place>,
-    class: Class,
-) -> Result<(), Memory>
-    requires { IfSome place (Fits (S.ladders seats.now)) }
-    ensures { OnOk result (text.new.items ≡ text.old.items
-        ++ left_text (S.state seats.now) place class) }
-{
-    match place {
-        Some(place) => {
-            put(text, &[class.letter()])?;
-            put_number(text, u64::from(seats.left_on(place, class)))?;
-        }
-        None => put(text, b"-")?,
-    }
-    Ok(())
 }
 
 fn wanted_at(flight: &FlightClass, look: &Look) -> Wanted

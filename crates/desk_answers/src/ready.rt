@@ -1,5 +1,5 @@
 //! The line that says where a desk stands.
-ghost use Rattle.std.specs.Prelude.{◌≡◌, ◌≤◌, ◌+◌, ◌++◌, length};
+ghost use Rattle.std.specs.Prelude.{◌≡◌, ◌≤◌, ◌+◌, ◌++◌, codes, decimal, length};
 ghost use Rattle.desk_answers.specs.Ready.{name_text, IsIsoDay, IsReadyLine};
 
 use airline_base::spelling::{put, put_number};
@@ -25,12 +25,7 @@ pub fn ready_line(
     let mut text = ArrayVec::new();
     put(&mut text, b"READY ");
     put_name(&mut text, name);
-    put_number(&mut text, u32::from(session));
-    put(&mut text, b" ");
-    put_number(&mut text, lines);
-    put(&mut text, b" ");
-    put_number(&mut text, calls);
-    put(&mut text, b" ");
+    put_counts(&mut text, u32::from(session), lines, calls);
     put(&mut text, &iso_day(today));
     put(&mut text, b" ");
     put_number(&mut text, epoch);
@@ -47,6 +42,21 @@ fn put_name(text: &mut ReadyLine, name: Option<Locator>)
         put(text, &name.characters());
         put(text, b" ");
     }
+}
+
+// Three numbers, a blank behind each.
+fn put_counts(text: &mut ReadyLine, session: u32, lines: u32, calls: u32)
+    requires room { length text.old.items + 33 ≤ 70 }
+    ensures text { text.new.items ≡ text.old.items ++ decimal session ++ codes " " ++ decimal lines ++ codes " "
+        ++ decimal calls ++ codes " " }
+    ensures len { length text.new.items ≤ length text.old.items + 33 }
+{
+    put_number(text, session);
+    put(text, b" ");
+    put_number(text, lines);
+    put(text, b" ");
+    put_number(text, calls);
+    put(text, b" ");
 }
 
 // YYYY-MM-DD

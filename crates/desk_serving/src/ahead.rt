@@ -131,9 +131,13 @@ impl<R: Wait> Read for AheadReader<R> {
             }
         }
         let mut rest = &self.bytes[self.read..];
-        let n = rest.read(buf)?;
-        self.read = self.read.saturating_add(n);
-        Ok(n)
+        match rest.read(buf) {
+            Ok(n) => {
+                self.read = self.read.saturating_add(n);
+                Ok(n)
+            }
+            Err(fault) => Err(fault),
+        }
     }
 }
 
@@ -174,20 +178,22 @@ pub fn read_ahead<R: Threads + Wait + Copy + Send + 'static, I: Read + Send + Dr
 
 fn read_there<R: Wait + Drop, I: Read + Drop>(rt: R, basin: Arc<Basin, Global>, input: I) {
     let mut input = input;
-    let has_failed = fill(&rt, &basin, &mut input).is_err();
+    let has_failed = fill(&rt, &basin, &mut input);
     basin.end(&rt, has_failed);
 }
 
-// Reads to the end of what there is.
-fn fill<R: Wait, I: Read>(rt: &R, basin: &Basin, input: &mut I) -> io::Result<()> {
+// Reads to the end of what there is. Whether what it is read from failed.
+fn fill<R: Wait, I: Read>(rt: &R, basin: &Basin, input: &mut I) -> bool {
     let mut piece = [0u8; PIECE];
     for _ in rt.forever() {
-        let n = input.read(&mut piece)?;
+        let Ok(n) = input.read(&mut piece) else {
+            return true;
+        };
         if n == 0 {
-            return Ok(());
+            return false;
         }
         if !basin.add(rt, &piece[..n]) {
-            return Err(io::ErrorKind::Other.into());
+            return true;
         }
     }
     unreachable!()

@@ -200,10 +200,10 @@ fn parts_of<'a>(
     ensures counts { IfOk result (λ parts. (length parts.2.items ≡ 9) × (length parts.3.items ≡ 9)) }
     ensures fresh { IfOk result (λ parts. All (IsFreshAt epoch) parts.2.items) }
 {
-    let served = Served::new(alloc, flights)?;
     let days = DayFlights::new(alloc, flights)?;
     let desks = desks_on(alloc, today, epoch)?;
     let calls = no_calls(alloc)?;
+    let served = Served::new(alloc, flights)?;
     Ok((served, days, desks, calls))
 }
 

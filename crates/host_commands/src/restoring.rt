@@ -107,12 +107,12 @@ fn recover_locked<'a>(
 }
 
 /// The new seal of a journal at this path, which is locked.
-pub fn seal_out<'a>(
-    rt: &'a HostRuntime,
-    journal: &'a str,
+pub fn seal_out(
+    rt: &HostRuntime,
+    journal: &str,
     path: &str,
     inputs: &Inputs<Input, Input>,
-) -> Result<SealOut<'a>, Refusal>
+) -> Result<SealOut, Refusal>
     ensures refused { IfErr result (λ refusal. IsTrue (is_of_file refusal.fault)) }
 {
     let files = files_taken(rt, inputs, &[], &[])?;

@@ -25,7 +25,7 @@ use desk_talk::{open_host, serve_sealed};
 use seat_desk::{Based, DeskFault, Inputs, Loaded, load_based};
 use seat_disk::{Replaced, Tape};
 use seat_display::Viewer;
-use seat_files::{Input, Output, Refusal, SealOut, standard_input, standard_output};
+use seat_files::{Input, Output, Refusal, SealOut, StatusFile, standard_input, standard_output};
 use seat_nesting::Grid;
 use seat_recovery::MOST_OPEN_BYTES;
 use seat_restoring::{NoDay, host_day};
@@ -72,13 +72,28 @@ pub fn serve<'a, R: Threads + Wait + Clock + Copy + Send + 'static>(
         Ok(passed) => passed,
         Err(refusal) => return Err(refusal),
     };
+    let (tape, status) = match tape_and_status(rt, job, &inputs) {
+        Ok(opened) => opened,
+        Err(refusal) => return Err(refusal),
+    };
+    clients.place(rt, status);
+    serve_locked(rt, waits, &inputs, based, said, clients, job.journal, tape)
+}
+
+/// The journal's file, locked, and behind that the file that is to say what the host has come to.
+fn tape_and_status(
+    rt: &HostRuntime,
+    job: &ServeJob<'_>,
+    inputs: &Inputs<Input, Input>,
+) -> Result<(TapeFile, Option<StatusFile>), Refusal> {
     let tape = match open(rt, job.journal) {
         Ok(tape) => tape,
         Err(fault) => return Err(unopened(job.journal, fault)),
     };
-    let status = status_named(rt, job, &inputs)?;
-    clients.place(rt, status);
-    serve_locked(rt, waits, &inputs, based, said, clients, job.journal, tape)
+    match status_named(rt, job, inputs) {
+        Ok(status) => Ok((tape, status)),
+        Err(refusal) => Err(refusal),
+    }
 }
 
 /// What stands in for standard error where nothing is open on it: a pipe or a file that is opened next would have its descriptor, and the notes.
@@ -125,20 +140,9 @@ fn serve_locked<'a, R: Threads + Wait + Clock + Copy + Send + 'static>(
     requires grid { IsGridOf based.loaded.flights based.loaded.grid }
     requires said { IfSome said IsCenturyDay }
 {
-    let path = match fs::canonicalize(rt, journal) {
-        Ok(path) => path.into_string(),
-        Err(error) => return Err(Refusal::unopened(journal, &error)),
-    };
-    let mut seals = match seal_out(rt, journal, path.as_str(), inputs) {
-        Ok(seals) => seals,
+    let (path, mut seals, text) = match seal_beside(rt, journal, inputs) {
+        Ok(beside) => beside,
         Err(refusal) => return Err(refusal),
-    };
-    let text = match seals.text() {
-        Ok(text) => text,
-        Err(refusal) => {
-            seals.leave();
-            return Err(refusal);
-        }
     };
     let mut beside = BesideFile::of(rt, path.as_str());
     let outcome = serve_over(
@@ -160,6 +164,29 @@ fn serve_locked<'a, R: Threads + Wait + Clock + Copy + Send + 'static>(
     }
 }
 
+/// Where the journal's name leads, the file of its seal, and what stands there.
+fn seal_beside(
+    rt: &HostRuntime,
+    journal: &str,
+    inputs: &Inputs<Input, Input>,
+) -> Result<(String, SealOut, Option<Vec<u8>>), Refusal> {
+    let path = match fs::canonicalize(rt, journal) {
+        Ok(path) => path.into_string(),
+        Err(error) => return Err(Refusal::unopened(journal, &error)),
+    };
+    let mut seals = match seal_out(rt, journal, path.as_str(), inputs) {
+        Ok(seals) => seals,
+        Err(refusal) => return Err(refusal),
+    };
+    match seals.text() {
+        Ok(text) => Ok((path, seals, text)),
+        Err(refusal) => {
+            seals.leave();
+            Err(refusal)
+        }
+    }
+}
+
 /// The same with what stands beside the journal read.
 fn serve_over<'a, R: Threads + Wait + Clock + Copy + Send + 'static>(
     rt: &'a HostRuntime,
@@ -171,7 +198,7 @@ fn serve_over<'a, R: Threads + Wait + Clock + Copy + Send + 'static>(
     seal: &Beside<'_>,
     tape: TapeFile,
     beside: &mut BesideFile<'_>,
-    seals: &mut SealOut<'a>,
+    seals: &mut SealOut,
 ) -> Result<(), Refusal>
     requires grid { IsGridOf based.loaded.flights based.loaded.grid }
     requires said { IfSome said IsCenturyDay }
@@ -242,7 +269,7 @@ fn serve_read<'a, R: Threads + Wait + Clock + Copy + Send + 'static>(
     seal: &Beside<'_>,
     tape: TapeFile,
     beside: &mut BesideFile<'_>,
-    seals: &mut SealOut<'a>,
+    seals: &mut SealOut,
 ) -> Result<(), Refusal>
     requires grid { IsGridOf (arc_value season.now).flights grid }
     requires opening { (arc_value season.now).grid ≡ grid }

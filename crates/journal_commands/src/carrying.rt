@@ -30,13 +30,13 @@ use std::thread::Threads;
 
 /// Carries the live bookings of a journal over the one season to the other, and writes the report. Where a leg has too few seats nothing is carried: the
 /// lines of such legs are written, and the answer says that there are any. The journal is locked from its reading to the end.
-pub fn carry<'a, R: Threads + Sync>(
-    rt: &'a HostRuntime,
+pub fn carry<R: Threads + Sync>(
+    rt: &HostRuntime,
     threads: &R,
     meter: &Meter,
-    asked: &CarryJob<'a>,
-    from: &Horizon<'a>,
-    to: &Horizon<'a>,
+    asked: &CarryJob<'_>,
+    from: &Horizon<'_>,
+    to: &Horizon<'_>,
 ) -> Result<bool, Refusal> {
     let from_days = days_of(from.first, from.days)?;
     let to_days = days_of(to.first, to.days)?;
@@ -50,7 +50,14 @@ pub fn carry<'a, R: Threads + Sync>(
         Ok(bytes) => bytes,
         Err(refusal) => return Err(refusal),
     };
-    let order = order_of(rt, asked.order)?;
+    let order = match order_of(rt, asked.order) {
+        Ok(order) => order,
+        Err(refusal) => return Err(refusal),
+    };
+    let mut seasons = match seasons_of(rt, from, from_days, to, to_days) {
+        Ok(seasons) => seasons,
+        Err(refusal) => return Err(refusal),
+    };
     let asking = CarryAsked {
         today,
         protections: protections.as_slice(),
@@ -61,41 +68,47 @@ pub fn carry<'a, R: Threads + Sync>(
         form,
         part,
     };
-    let mut seasons = match seasons_of(rt, from, from_days, to, to_days) {
-        Ok(seasons) => seasons,
-        Err(refusal) => return Err(refusal),
-    };
+    carried_over(rt, threads, meter, asked, &asking, &mut seasons)
+}
+
+/// The same with both seasons open.
+fn carried_over<R: Threads + Sync>(
+    rt: &HostRuntime,
+    threads: &R,
+    meter: &Meter,
+    asked: &CarryJob<'_>,
+    asking: &CarryAsked<'_>,
+    seasons: &mut Seasons,
+) -> Result<bool, Refusal>
+    requires from_first { IsOfCentury seasons.old.from.first }
+    requires from_days { (1 ≤ seasons.old.from.days) × (seasons.old.from.days ≤ 366) }
+    requires to_first { IsOfCentury seasons.old.to.first }
+    requires to_days { (1 ≤ seasons.old.to.days) × (seasons.old.to.days ≤ 366) }
+    requires rows { length asking.now.protections.now ≤ 16777216 }
+{
     if !asked.others.is_empty() {
-        return together(rt, threads, meter, asked, &asking, &mut seasons);
+        return together(rt, threads, meter, asked, asking, seasons);
     }
     if asked.dry_run {
-        return tried(rt, threads, meter, asked, &asking, &mut seasons);
+        return tried(rt, threads, meter, asked, asking, seasons);
     }
-    let (older, text) = match older_locked(rt, asked, &seasons) {
+    let (mut older, text) = match older_locked(rt, asked, seasons) {
         Ok(locked) => locked,
         Err(refusal) => return Err(refusal),
     };
-    let mut older = older;
     let outcome = carried(
-        rt,
-        threads,
-        meter,
-        asked,
-        &asking,
-        &mut seasons,
-        &mut older,
-        &text,
+        rt, threads, meter, asked, asking, seasons, &mut older, &text,
     );
     older.seal.leave();
     outcome
 }
 
 /// The same of several journals.
-fn together<'a, R: Threads + Sync>(
-    rt: &'a HostRuntime,
+fn together<R: Threads + Sync>(
+    rt: &HostRuntime,
     threads: &R,
     meter: &Meter,
-    asked: &CarryJob<'a>,
+    asked: &CarryJob<'_>,
     asking: &CarryAsked<'_>,
     seasons: &mut Seasons,
 ) -> Result<bool, Refusal>
@@ -112,11 +125,11 @@ fn together<'a, R: Threads + Sync>(
 }
 
 /// What it would be, of which the report alone is written.
-fn tried<'a, R: Threads + Sync>(
-    rt: &'a HostRuntime,
+fn tried<R: Threads + Sync>(
+    rt: &HostRuntime,
     threads: &R,
     meter: &Meter,
-    asked: &CarryJob<'a>,
+    asked: &CarryJob<'_>,
     asking: &CarryAsked<'_>,
     seasons: &mut Seasons,
 ) -> Result<bool, Refusal>
@@ -151,14 +164,14 @@ fn tried<'a, R: Threads + Sync>(
 }
 
 /// The carry of a journal under its lock.
-fn carried<'a, R: Threads + Sync>(
-    rt: &'a HostRuntime,
+fn carried<R: Threads + Sync>(
+    rt: &HostRuntime,
     threads: &R,
     meter: &Meter,
-    asked: &CarryJob<'a>,
+    asked: &CarryJob<'_>,
     asking: &CarryAsked<'_>,
     seasons: &mut Seasons,
-    older: &mut Older<'a>,
+    older: &mut Older,
     text: &Option<Vec<u8>>,
 ) -> Result<bool, Refusal>
     requires from_first { IsOfCentury seasons.old.from.first }
@@ -180,16 +193,16 @@ fn carried<'a, R: Threads + Sync>(
 }
 
 /// The same with the new journal under its lock.
-fn carried_to<'a, R: Threads + Sync>(
-    rt: &'a HostRuntime,
+fn carried_to<R: Threads + Sync>(
+    rt: &HostRuntime,
     threads: &R,
     meter: &Meter,
-    asked: &CarryJob<'a>,
+    asked: &CarryJob<'_>,
     asking: &CarryAsked<'_>,
     seasons: &mut Seasons,
-    older: &mut Older<'a>,
+    older: &mut Older,
     text: &Option<Vec<u8>>,
-    newer: &mut Newer<'a>,
+    newer: &mut Newer,
 ) -> Result<bool, Refusal>
     requires from_first { IsOfCentury seasons.old.from.first }
     requires from_days { (1 ≤ seasons.old.from.days) × (seasons.old.from.days ≤ 366) }
@@ -234,13 +247,13 @@ fn beside_of(text: &Option<Vec<u8>>) -> Beside<'_> {
 
 /// Hands the journal's bookings over to the new one, where that may be written, and says the report again where they were handed over to it
 /// before.
-fn handed<'a>(
+fn handed(
     rt: &HostRuntime,
-    asked: &CarryJob<'a>,
+    asked: &CarryJob<'_>,
     carriage: Carriage,
-    older: &mut Older<'a>,
+    older: &mut Older,
     text: &Option<Vec<u8>>,
-    newer: &mut Newer<'a>,
+    newer: &mut Newer,
     out: &mut Output,
 ) -> Result<(), Refusal>
     requires imprint { carriage.entry.journal.imprint ≡ imprint_of (front_of carriage.text) }
@@ -288,15 +301,15 @@ fn bytes_of(text: &Option<Vec<u8>>) -> &[u8] {
 }
 
 /// Writes the mark, the new journal with its seal, and the report.
-fn put<'a>(
+fn put(
     rt: &HostRuntime,
-    asked: &CarryJob<'a>,
+    asked: &CarryJob<'_>,
     hand: Hand,
     carriage: Carriage,
     before: SealEntry,
-    older: &mut Older<'a>,
+    older: &mut Older,
     seal_text: &Option<Vec<u8>>,
-    newer: &mut Newer<'a>,
+    newer: &mut Newer,
     out: &mut Output,
 ) -> Result<(), Refusal>
     requires known { is_sealed carriage.known ≡ true }
@@ -330,14 +343,19 @@ fn put<'a>(
         Ok(()) => Ok(()),
         Err(HandFault::TakenBack) => Err(failed(older, newer)),
         Err(HandFault::Unfinished) => {
-            let file = Shown { name: asked.new };
-            let _ = eprintln!(rt;
-                "seatdesk: note: the bookings are on their way to {file}: the same carry is to be sent again"
-            );
+            tell_unfinished(rt, asked.new);
             Err(failed(older, newer))
         }
         Err(HandFault::Unsaid) => Err(Refusal::from(DeskFault::Device).noting_output(out)),
     }
+}
+
+/// Says that a carry to the journal of this name has not ended.
+pub(crate) fn tell_unfinished(rt: &HostRuntime, new: &str) {
+    let file = Shown { name: new };
+    let _ = eprintln!(rt;
+        "seatdesk: note: the bookings are on their way to {file}: the same carry is to be sent again"
+    );
 }
 
 pub(crate) fn write(out: &mut Output, text: &[u8]) -> Result<(), Refusal> {

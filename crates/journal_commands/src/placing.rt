@@ -7,6 +7,7 @@ use seat_desk::DeskFault;
 use seat_files::{Guard, Input, JournalFile, Refusal, SealOut, files_taken};
 use seat_words::CarryJob;
 use std::fs;
+use std::fs::Metadata;
 
 /// Why a new journal that is a pipe or a device is refused: it can't be written once more where a carry did not end.
 const NO_FILE: &str = "Is no regular file";
@@ -15,12 +16,12 @@ const NO_FILE: &str = "Is no regular file";
 const NO_SHARD: &str = "Leads to a name without the shard's number";
 
 /// The journal whose bookings are carried, under its lock: its seal, and what it has.
-pub(crate) struct Older<'a> {
-    pub seal: SealOut<'a>,
+pub(crate) struct Older {
+    pub seal: SealOut,
     pub journal: Input,
 }
 
-impl Drop for Older<'_> {
+impl Drop for Older {
     fn drop(self) {
         let Older {
             seal: _seal,
@@ -30,11 +31,11 @@ impl Drop for Older<'_> {
 }
 
 /// Locks the journal whose bookings are carried, and reads its seal. It must be a regular file, and no run's or host's.
-pub(crate) fn older_locked<'a>(
-    rt: &'a HostRuntime,
-    asked: &CarryJob<'a>,
+pub(crate) fn older_locked(
+    rt: &HostRuntime,
+    asked: &CarryJob<'_>,
     seasons: &Seasons,
-) -> Result<(Older<'a>, Option<Vec<u8>>), Refusal> {
+) -> Result<(Older, Option<Vec<u8>>), Refusal> {
     let files = files_taken(
         rt,
         &seasons.from,
@@ -62,15 +63,15 @@ pub(crate) fn newer_named(rt: &HostRuntime, new: &str) -> Result<(), Refusal> {
 }
 
 /// The new journal under its lock, and its seal.
-pub(crate) struct Newer<'a> {
-    pub journal: JournalFile<'a>,
-    pub seal: SealOut<'a>,
+pub(crate) struct Newer {
+    pub journal: JournalFile,
+    pub seal: SealOut,
     /// By what a mark names it: where its name leads from the root, through links, so that it is the same journal by whatever name and from
     /// whatever folder; and where it is of one of several hosts, what names the journals of all of them.
     pub name: String,
 }
 
-impl Drop for Newer<'_> {
+impl Drop for Newer {
     fn drop(self) {
         let Newer {
             journal: _journal,
@@ -80,7 +81,7 @@ impl Drop for Newer<'_> {
     }
 }
 
-impl<'a> Newer<'a> {
+impl Newer {
     /// Takes away what was made and is not to stay. A seal that was put ahead of its journal goes first, while the journal is locked.
     pub fn leave(&self) {
         if self.journal.is_to_go() {
@@ -92,42 +93,63 @@ impl<'a> Newer<'a> {
 }
 
 /// Locks the new journal, and makes it where it is not there. It is none of the inputs, nor the older journal, nor the file of the report.
-pub(crate) fn newer_locked<'a>(
-    rt: &'a HostRuntime,
-    asked: &CarryJob<'a>,
+pub(crate) fn newer_locked(
+    rt: &HostRuntime,
+    asked: &CarryJob<'_>,
     part: Option<Part>,
     seasons: &Seasons,
-    older: &Older<'a>,
-) -> Result<Newer<'a>, Refusal> {
+    older: &Older,
+) -> Result<Newer, Refusal> {
     let more = [&seasons.to.set, &seasons.to.limits, &older.journal];
     newer_beside(rt, asked, part, seasons, &[], &more)
 }
 
 /// The same beside several older journals.
-pub(crate) fn newer_among<'a>(
-    rt: &'a HostRuntime,
-    asked: &CarryJob<'a>,
+pub(crate) fn newer_among(
+    rt: &HostRuntime,
+    asked: &CarryJob<'_>,
     part: Option<Part>,
     seasons: &Seasons,
     olders: &[Input],
-) -> Result<Newer<'a>, Refusal> {
+) -> Result<Newer, Refusal> {
     let more = [&seasons.to.set, &seasons.to.limits];
     newer_beside(rt, asked, part, seasons, olders, &more)
 }
 
-fn newer_beside<'a>(
-    rt: &'a HostRuntime,
-    asked: &CarryJob<'a>,
+fn newer_beside(
+    rt: &HostRuntime,
+    asked: &CarryJob<'_>,
     part: Option<Part>,
     seasons: &Seasons,
     olders: &[Input],
     more: &[&Input],
-) -> Result<Newer<'a>, Refusal> {
-    let guard = Guard::new(rt, asked.new)?;
-    guard.pass(&seasons.from, olders, more)?;
-    guard.pass_output(rt)?;
+) -> Result<Newer, Refusal> {
+    pass_newer(rt, asked.new, seasons, olders, more)?;
     let files = files_taken(rt, &seasons.from, olders, more)?;
     let journal = JournalFile::open(rt, asked.new, files.as_slice())?;
+    newer_with_seal(rt, journal, part, files.as_slice())
+}
+
+/// Refuses a new journal that is one of the inputs, or the file of the report.
+fn pass_newer(
+    rt: &HostRuntime,
+    new: &str,
+    seasons: &Seasons,
+    olders: &[Input],
+    more: &[&Input],
+) -> Result<(), Refusal> {
+    let guard = Guard::new(rt, new)?;
+    guard.pass(&seasons.from, olders, more)?;
+    guard.pass_output(rt)
+}
+
+/// The same with the journal under its lock.
+fn newer_with_seal(
+    rt: &HostRuntime,
+    journal: JournalFile,
+    part: Option<Part>,
+    taken: &[Metadata],
+) -> Result<Newer, Refusal> {
     let name = match name_of(rt, &journal, part) {
         Ok(name) => name,
         Err(refusal) => {
@@ -135,7 +157,7 @@ fn newer_beside<'a>(
             return Err(refusal);
         }
     };
-    match SealOut::beside(rt, &journal, files.as_slice()) {
+    match SealOut::beside(rt, &journal, taken) {
         Ok(seal) => Ok(Newer {
             journal,
             seal,
@@ -149,11 +171,7 @@ fn newer_beside<'a>(
 }
 
 /// By what a mark names the new journal.
-fn name_of(
-    rt: &HostRuntime,
-    journal: &JournalFile<'_>,
-    part: Option<Part>,
-) -> Result<String, Refusal> {
+fn name_of(rt: &HostRuntime, journal: &JournalFile, part: Option<Part>) -> Result<String, Refusal> {
     let Some(path) = journal.path() else {
         return Err(Refusal::barred(journal.name(), NO_FILE));
     };
@@ -165,14 +183,14 @@ fn name_of(
 }
 
 /// The bytes that stand under the new journal's name, and what stands beside it.
-pub(crate) fn standing(newer: &Newer<'_>) -> Result<(Vec<u8>, Option<Vec<u8>>), Refusal> {
+pub(crate) fn standing(newer: &Newer) -> Result<(Vec<u8>, Option<Vec<u8>>), Refusal> {
     let bytes = newer.journal.bytes()?;
     let text = newer.seal.text()?;
     Ok((bytes, text))
 }
 
 /// Whose failure it was.
-pub(crate) fn failed<'a>(older: &Older<'a>, newer: &Newer<'a>) -> Refusal {
+pub(crate) fn failed(older: &Older, newer: &Newer) -> Refusal {
     Refusal::from(DeskFault::Device)
         .noting_journal(&newer.journal)
         .noting_seal(&newer.seal)

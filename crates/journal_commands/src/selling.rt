@@ -32,11 +32,11 @@ use std::thread::Threads;
 /// OUT, the file of the journal, is looked at, locked and made where it is not there, once each input is open and before the first is
 /// read. Without an older journal the run goes on from no line, and without a file of changes there are none. Without changes it needs
 /// a script. How many lines a journal began with is asked only where the run goes on with its scripts.
-pub fn run<'a, T: Threads + Wait + Sync>(
-    rt: &'a HostRuntime,
+pub fn run<T: Threads + Wait + Sync>(
+    rt: &HostRuntime,
     threads: &T,
     meter: &Meter,
-    asking: &RunJob<'a>,
+    asking: &RunJob<'_>,
 ) -> Result<(), Refusal> {
     let over = &asking.over;
     let days = days_of(over.first, over.days)?;
@@ -48,33 +48,60 @@ pub fn run<'a, T: Threads + Wait + Sync>(
     let Some(sessions) = sessions_of_run(asking.scripts.as_slice(), asking.changes.is_some()) else {
         return Err(Refusal::from(WordFault::BadScripts));
     };
-    let inputs = match inputs_of(rt, over, days) {
-        Ok(inputs) => inputs,
+    let (mut texts, mut past) = match files_opened(rt, asking, days, sessions) {
+        Ok(files) => files,
         Err(refusal) => return Err(refusal),
-    };
-    let mut past = past_opened(rt, asking)?;
-    let scripts = scripts_opened(rt, asking.scripts.as_slice(), sessions)?;
-    let changes = opened_or(rt, asking.changes, b"")?;
-    let mut texts = Texts {
-        inputs,
-        scripts,
-        changes,
     };
     let sale = Sale {
         asking,
         meter,
         given,
         today,
-        keeps: true,
     };
     run_over(rt, threads, &sale, &mut texts, &mut past)
 }
 
+/// All that is read, open: the data set and the limit rows, the journals that the run may go on from, the scripts of so many sessions, and the
+/// changes.
+fn files_opened(
+    rt: &HostRuntime,
+    asking: &RunJob<'_>,
+    days: (Day, u16),
+    sessions: usize,
+) -> Result<(Texts, Past), Refusal>
+    ensures first { IfOk result (λ files. files.0.inputs.first ≡ days.0) }
+    ensures days { IfOk result (λ files. files.0.inputs.days ≡ days.1) }
+    ensures scripts { IfOk result (λ files. length files.0.scripts.items ≡ sessions) }
+{
+    let inputs = match inputs_of(rt, &asking.over, days) {
+        Ok(inputs) => inputs,
+        Err(refusal) => return Err(refusal),
+    };
+    let past = match past_opened(rt, asking) {
+        Ok(past) => past,
+        Err(refusal) => return Err(refusal),
+    };
+    let scripts = match scripts_opened(rt, asking.scripts.as_slice(), sessions) {
+        Ok(scripts) => scripts,
+        Err(refusal) => return Err(refusal),
+    };
+    let changes = match opened_or(rt, asking.changes, b"") {
+        Ok(changes) => changes,
+        Err(refusal) => return Err(refusal),
+    };
+    let texts = Texts {
+        inputs,
+        scripts,
+        changes,
+    };
+    Ok((texts, past))
+}
+
 /// The same with all inputs open.
-fn run_over<'a, T: Threads + Wait + Sync>(
-    rt: &'a HostRuntime,
+fn run_over<T: Threads + Wait + Sync>(
+    rt: &HostRuntime,
     threads: &T,
-    sale: &Sale<'a, '_>,
+    sale: &Sale<'_, '_>,
     texts: &mut Texts,
     past: &mut Past,
 ) -> Result<(), Refusal>
@@ -95,13 +122,13 @@ fn run_over<'a, T: Threads + Wait + Sync>(
 }
 
 /// The same with OUT under its lock: where wrong lines are passed over, the scripts are sorted out first.
-fn sell_sorted<'a, T: Threads + Wait + Sync>(
-    rt: &'a HostRuntime,
+fn sell_sorted<T: Threads + Wait + Sync>(
+    rt: &HostRuntime,
     threads: &T,
-    sale: &Sale<'a, '_>,
+    sale: &Sale<'_, '_>,
     texts: &mut Texts,
     past: &mut Past,
-    place: &mut Place<'a>,
+    place: &mut Place,
 ) -> Result<(), Refusal>
     requires first { IsOfCentury texts.old.inputs.first }
     requires days { (1 ≤ texts.old.inputs.days) × (texts.old.inputs.days ≤ 366) }
@@ -114,12 +141,12 @@ fn sell_sorted<'a, T: Threads + Wait + Sync>(
 
 /// Begins the list of the wrong lines, where one is named, and sorts the scripts out into it. It is put with the journal, and goes with it.
 #[tactic(auto, using(command_inputs::proofs::Sorting::is_put_with))]
-fn begin_list<'a>(
+fn begin_list(
     rt: &HostRuntime,
-    sale: &Sale<'a, '_>,
+    sale: &Sale<'_, '_>,
     texts: &mut Texts,
     past: &Past,
-    place: &mut Place<'a>,
+    place: &mut Place,
 ) -> Result<(), Refusal>
     requires few { length texts.old.scripts.items ≤ 8 }
     ensures first { texts.new.inputs.first ≡ texts.old.inputs.first }
@@ -151,7 +178,7 @@ fn begin_list<'a>(
 }
 
 /// Takes away what was made and is not to stay. A seal that was put ahead of its journal goes first, while OUT is locked.
-fn leave(place: &Place<'_>) {
+fn leave(place: &Place) {
     if place.journal.is_to_go() {
         place.seal.take_away();
     }
@@ -160,16 +187,19 @@ fn leave(place: &Place<'_>) {
 }
 
 /// Where a run puts its journal, and the seal of it.
-struct Place<'a> {
-    journal: JournalFile<'a>,
-    seal: SealOut<'a>,
+struct Place {
+    journal: JournalFile,
+    seal: SealOut,
+    /// Whether what OUT and its seal have is to be kept.
+    keeps: bool,
 }
 
-impl Drop for Place<'_> {
+impl Drop for Place {
     fn drop(self) {
         let Place {
             journal: _journal,
             seal: _seal,
+            keeps: _keeps,
         } = self;
     }
 }
@@ -228,28 +258,26 @@ fn is_one_journal(past: &Past) -> Result<bool, Refusal> {
 
 /// OUT under its lock, and its seal. OUT is none of the inputs but a journal that the run goes on from, nor the file of the replies; its
 /// seal is none of these.
-fn locked_out<'a>(
-    rt: &'a HostRuntime,
-    asking: &RunJob<'a>,
+fn locked_out(
+    rt: &HostRuntime,
+    asking: &RunJob<'_>,
     texts: &Texts,
     past: &Past,
-) -> Result<Place<'a>, Refusal> {
-    let scripts = texts.scripts.as_slice();
-    let guard = Guard::new(rt, asking.journal)?;
-    guard.pass(&texts.inputs, scripts, &[&texts.changes])?;
-    guard.pass_output(rt)?;
-    if asking.no_clobber {
-        guard.keep()?;
-    }
+) -> Result<Place, Refusal> {
+    pass_out(rt, asking, texts)?;
     let files = files_taken(
         rt,
         &texts.inputs,
-        scripts,
+        texts.scripts.as_slice(),
         &[&texts.changes, &past.after, &past.resumed],
     )?;
     let journal = JournalFile::open(rt, asking.journal, files.as_slice())?;
     match SealOut::beside(rt, &journal, files.as_slice()) {
-        Ok(seal) => Ok(Place { journal, seal }),
+        Ok(seal) => Ok(Place {
+            journal,
+            seal,
+            keeps: true,
+        }),
         Err(refusal) => {
             journal.leave();
             Err(refusal)
@@ -257,15 +285,26 @@ fn locked_out<'a>(
     }
 }
 
+/// Refuses an OUT that is one of the inputs but a journal that the run goes on from, or the file of the replies, or that is there and is to stay.
+fn pass_out(rt: &HostRuntime, asking: &RunJob<'_>, texts: &Texts) -> Result<(), Refusal> {
+    let guard = Guard::new(rt, asking.journal)?;
+    guard.pass(&texts.inputs, texts.scripts.as_slice(), &[&texts.changes])?;
+    guard.pass_output(rt)?;
+    if asking.no_clobber {
+        return guard.keep();
+    }
+    Ok(())
+}
+
 /// Books what the texts ask into the file of the journal, which is locked, with its seal. A journal that the run goes on from, and that is a regular
 /// file, is opened once more, since it may be that file.
-fn sell<'a, T: Threads + Wait + Sync>(
-    rt: &'a HostRuntime,
+fn sell<T: Threads + Wait + Sync>(
+    rt: &HostRuntime,
     threads: &T,
-    sale: &Sale<'a, '_>,
+    sale: &Sale<'_, '_>,
     texts: &mut Texts,
     past: &mut Past,
-    place: &mut Place<'a>,
+    place: &mut Place,
 ) -> Result<(), Refusal>
     requires first { IsOfCentury texts.old.inputs.first }
     requires days { (1 ≤ texts.old.inputs.days) × (texts.old.inputs.days ≤ 366) }
@@ -282,27 +321,20 @@ fn sell<'a, T: Threads + Wait + Sync>(
     }
     open_past_again(rt, asking, past)?;
     let seals = seals_of(rt, &past.after, &past.resumed, false)?;
-    let keeps = keeps_both(rt, past, place)?;
-    let sale = Sale {
-        asking,
-        meter: sale.meter,
-        given: sale.given,
-        today: sale.today,
-        keeps,
-    };
-    sell_beside(rt, threads, &sale, texts, past, &seals, older, place)
+    place.keeps = keeps_both(rt, past, place)?;
+    sell_beside(rt, threads, sale, texts, past, &seals, older, place)
 }
 
 /// The same with what stands beside the journals read.
-fn sell_beside<'a, T: Threads + Wait + Sync>(
-    rt: &'a HostRuntime,
+fn sell_beside<T: Threads + Wait + Sync>(
+    rt: &HostRuntime,
     threads: &T,
-    sale: &Sale<'a, '_>,
+    sale: &Sale<'_, '_>,
     texts: &mut Texts,
     past: &mut Past,
     seals: &Seals,
     older: SealEntry,
-    place: &mut Place<'a>,
+    place: &mut Place,
 ) -> Result<(), Refusal>
     requires first { IsOfCentury texts.old.inputs.first }
     requires days { (1 ≤ texts.old.inputs.days) × (texts.old.inputs.days ≤ 366) }
@@ -329,11 +361,9 @@ fn sell_beside<'a, T: Threads + Wait + Sync>(
 #[derive(Clone, Copy)]
 struct Sale<'a, 'b> {
     asking: &'b RunJob<'a>,
-    meter: &'a Meter,
+    meter: &'b Meter,
     given: Option<u32>,
     today: Day,
-    /// Whether what OUT and its seal have is to be kept.
-    keeps: bool,
 }
 
 /// What the command came to, of whichever input it is refused for.
@@ -348,12 +378,12 @@ fn sold(outcome: Result<(), DeskFault>, texts: &Texts, past: &Past) -> Result<()
 }
 
 /// Says what may not be meant so, of a run that booked all.
-fn tell_sold<'a>(
+fn tell_sold(
     rt: &HostRuntime,
-    sale: &Sale<'a, '_>,
+    sale: &Sale<'_, '_>,
     texts: &Texts,
     seals: &Seals,
-    place: &Place<'a>,
+    place: &Place,
     out: &Heard,
 ) {
     let mut has_refused = false;
@@ -368,14 +398,14 @@ fn tell_sold<'a>(
 }
 
 /// The refusal of a run, with what is known of its files.
-fn unsold<'a>(
+fn unsold(
     rt: &HostRuntime,
-    sale: &Sale<'a, '_>,
+    sale: &Sale<'_, '_>,
     refusal: Refusal,
     texts: &Texts,
     past: &Past,
     seals: &Seals,
-    place: &mut Place<'a>,
+    place: &mut Place,
     out: &Heard,
 ) -> Result<(), Refusal> {
     let lines = lines_ahead(rt, sale.asking, sale.given, &past.after, place);
@@ -390,15 +420,15 @@ fn unsold<'a>(
 }
 
 /// Books by the one command or the other: scripts that have grown go on with their journal.
-fn booked<'a, T: Threads + Wait + Sync>(
-    rt: &'a HostRuntime,
+fn booked<T: Threads + Wait + Sync>(
+    rt: &HostRuntime,
     threads: &T,
-    sale: &Sale<'a, '_>,
+    sale: &Sale<'_, '_>,
     texts: &mut Texts,
     past: &mut Past,
     besides: &Besides<'_>,
     older: SealEntry,
-    place: &mut Place<'a>,
+    place: &mut Place,
     out: &mut Heard,
 ) -> Result<(), DeskFault>
     requires first { IsOfCentury texts.old.inputs.first }
@@ -423,15 +453,15 @@ fn booked<'a, T: Threads + Wait + Sync>(
     )
 }
 
-fn gone_on<'a, T: Threads + Wait + Sync>(
-    rt: &'a HostRuntime,
+fn gone_on<T: Threads + Wait + Sync>(
+    rt: &HostRuntime,
     threads: &T,
-    sale: &Sale<'a, '_>,
+    sale: &Sale<'_, '_>,
     texts: &mut Texts,
     past: &mut Past,
     besides: &Besides<'_>,
     older: SealEntry,
-    place: &mut Place<'a>,
+    place: &mut Place,
     out: &mut Heard,
 ) -> Result<(), DeskFault>
     requires first { IsOfCentury texts.old.inputs.first }
@@ -457,22 +487,22 @@ fn gone_on<'a, T: Threads + Wait + Sync>(
         sale.today,
         &NoGate,
         older,
-        sale.keeps,
+        place.keeps,
         &mut place.journal,
         &mut place.seal,
         out,
     )
 }
 
-fn begun<'a, T: Threads + Wait + Sync>(
-    rt: &'a HostRuntime,
+fn begun<T: Threads + Wait + Sync>(
+    rt: &HostRuntime,
     threads: &T,
-    sale: &Sale<'a, '_>,
+    sale: &Sale<'_, '_>,
     texts: &mut Texts,
     after: &mut Input,
     beside: &Beside<'_>,
     older: SealEntry,
-    place: &mut Place<'a>,
+    place: &mut Place,
     out: &mut Heard,
 ) -> Result<(), DeskFault>
     requires first { IsOfCentury texts.old.inputs.first }
@@ -495,7 +525,7 @@ fn begun<'a, T: Threads + Wait + Sync>(
         sale.today,
         &NoGate,
         older,
-        sale.keeps,
+        place.keeps,
         &mut place.journal,
         &mut place.seal,
         out,
@@ -514,7 +544,7 @@ fn meter_texts(rt: &HostRuntime, meter: &Meter, texts: &mut Texts)
 }
 
 /// What the seal beside OUT has of the journal there, or else which bytes OUT has.
-fn older_in(place: &Place<'_>) -> Result<SealEntry, Refusal> {
+fn older_in(place: &Place) -> Result<SealEntry, Refusal> {
     let bytes = place.journal.bytes()?;
     let seal = match place.seal.text()? {
         Some(text) => read_seal(&text),
@@ -524,7 +554,7 @@ fn older_in(place: &Place<'_>) -> Result<SealEntry, Refusal> {
 }
 
 /// Whether what OUT and its seal have is to be kept: where the run does not go on from it. Under which names is decided here.
-fn keeps_both(rt: &HostRuntime, past: &Past, place: &mut Place<'_>) -> Result<bool, Refusal> {
+fn keeps_both(rt: &HostRuntime, past: &Past, place: &mut Place) -> Result<bool, Refusal> {
     let journal = &place.journal;
     match are_gone_on_from(past, journal) {
         Ok(true) => return Ok(false),
@@ -540,12 +570,12 @@ fn keeps_both(rt: &HostRuntime, past: &Past, place: &mut Place<'_>) -> Result<bo
 }
 
 /// The refusal of a run, which says whether the journal is in its place all the same.
-fn noting_place<'a>(
+fn noting_place(
     rt: &HostRuntime,
-    asking: &RunJob<'a>,
+    asking: &RunJob<'_>,
     refusal: Refusal,
     past: &Past,
-    place: &mut Place<'a>,
+    place: &mut Place,
 ) -> Result<(), Refusal> {
     if !place.journal.is_put() {
         return Err(refusal);
@@ -569,12 +599,12 @@ fn tell_compared(rt: &HostRuntime, asking: &RunJob<'_>, given: Option<u32>, seal
 }
 
 /// Ahead of how many lines a run began that may have booked what is asked: of all, where the scripts go behind the whole journal.
-fn lines_ahead<'a>(
+fn lines_ahead(
     rt: &HostRuntime,
-    asking: &RunJob<'a>,
+    asking: &RunJob<'_>,
     given: Option<u32>,
     after: &Input,
-    place: &mut Place<'a>,
+    place: &mut Place,
 ) -> u64 {
     if asking.resume.is_none() {
         return u64::MAX;
@@ -589,7 +619,7 @@ fn lines_ahead<'a>(
 }
 
 /// How many lines the new journal went on from, as its seal says.
-fn lines_sealed(place: &Place<'_>) -> Option<u32> {
+fn lines_sealed(place: &Place) -> Option<u32> {
     let Ok(Some(text)) = place.seal.text() else {
         return None;
     };
@@ -601,7 +631,7 @@ fn lines_of(
     rt: &HostRuntime,
     path: Option<&str>,
     input: &Input,
-    journal: &mut JournalFile<'_>,
+    journal: &mut JournalFile,
 ) -> Result<u64, Refusal> {
     let Some(path) = path else {
         return Ok(0);
@@ -637,7 +667,7 @@ fn is_regular(input: &Input) -> Result<bool, Refusal> {
 }
 
 /// Whether one of the older journals is the very file that the new one is put into.
-fn are_gone_on_from(past: &Past, journal: &JournalFile<'_>) -> Result<bool, Refusal> {
+fn are_gone_on_from(past: &Past, journal: &JournalFile) -> Result<bool, Refusal> {
     match is_gone_on_from(&past.after, journal) {
         Ok(false) => is_gone_on_from(&past.resumed, journal),
         found => found,
@@ -645,7 +675,7 @@ fn are_gone_on_from(past: &Past, journal: &JournalFile<'_>) -> Result<bool, Refu
 }
 
 /// Whether the older journal is the very file that the new one is put into.
-fn is_gone_on_from(after: &Input, journal: &JournalFile<'_>) -> Result<bool, Refusal> {
+fn is_gone_on_from(after: &Input, journal: &JournalFile) -> Result<bool, Refusal> {
     let out = match journal.metadata() {
         Ok(Some(out)) => out,
         Ok(None) => return Ok(false),

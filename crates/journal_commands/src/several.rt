@@ -14,7 +14,7 @@ ghost use Rattle.ssim_flights.specs.Right.{IsOfCentury};
 ghost use Rattle.seat_files.specs.declared.fault.Fault.TheVariants.{Carry as OfCarry};
 ghost use Rattle.journal_commands.specs.Marks.{carry_kind};
 
-use crate::carrying::{slice_of, write};
+use crate::carrying::{slice_of, tell_unfinished, write};
 use crate::inputs::{Seasons, unmade_of};
 use crate::marking::{all_sealed, besides_in, besides_of, bytes_in, kept, marks_of};
 use crate::naming::{last_of, name_at};
@@ -28,8 +28,8 @@ use command_inputs::{meter_each, meter_inputs};
 use progress_meter::{Lines, Meter};
 use seat_desk::DeskFault;
 use seat_files::{
-    CarryKind, Input, Output, Refusal, SealFile, SealOut, Shown, TOO_LONG, files_taken,
-    metered_output, opened,
+    CarryKind, Input, Output, Refusal, SealFile, SealOut, TOO_LONG, files_taken, metered_output,
+    opened,
 };
 use seat_handing::{
     Hand, HandFault, HandRefusal, HandsRefusal, Judgement, hand_over_several, may_be_marked,
@@ -42,13 +42,13 @@ use seat_words::CarryJob;
 use std::thread::Threads;
 
 /// The journals whose bookings are carried, in order, each under its lock: the seals beside them, what these have, and what the journals have.
-struct Olders<'a> {
-    seals: Vec<SealOut<'a>>,
+struct Olders {
+    seals: Vec<SealOut>,
     texts: Vec<Option<Items<u8>>>,
     journals: Vec<Input>,
 }
 
-impl Drop for Olders<'_> {
+impl Drop for Olders {
     fn drop(self) {
         let Olders {
             seals: _seals,
@@ -58,7 +58,7 @@ impl Drop for Olders<'_> {
     }
 }
 
-impl<'a> Olders<'a> {
+impl Olders {
     fn leave(&self) {
         for seal in self.seals.as_slice() {
             seal.leave();
@@ -67,11 +67,11 @@ impl<'a> Olders<'a> {
 }
 
 /// Carries the live bookings of several journals, which are locked from their reading to the end.
-pub(crate) fn carried_together<'a, R: Threads + Sync>(
-    rt: &'a HostRuntime,
+pub(crate) fn carried_together<R: Threads + Sync>(
+    rt: &HostRuntime,
     threads: &R,
     meter: &Meter,
-    asked: &CarryJob<'a>,
+    asked: &CarryJob<'_>,
     asking: &CarryAsked<'_>,
     seasons: &mut Seasons,
 ) -> Result<bool, Refusal>
@@ -95,11 +95,11 @@ pub(crate) fn carried_together<'a, R: Threads + Sync>(
 }
 
 /// Locks the journals in order, and reads the seals beside them.
-fn lock_each<'a>(
-    rt: &'a HostRuntime,
-    asked: &CarryJob<'a>,
+fn lock_each(
+    rt: &HostRuntime,
+    asked: &CarryJob<'_>,
     seasons: &Seasons,
-    olders: &mut Olders<'a>,
+    olders: &mut Olders,
 ) -> Result<(), Refusal>
     requires texts { vec_len olders.old.texts ≡ vec_len olders.old.seals }
     requires journals { vec_len olders.old.journals ≡ vec_len olders.old.seals }
@@ -118,11 +118,11 @@ fn lock_each<'a>(
 }
 
 /// Locks those of these names.
-fn lock_all<'a>(
-    rt: &'a HostRuntime,
-    names: &[&'a str],
+fn lock_all(
+    rt: &HostRuntime,
+    names: &[&str],
     seasons: &Seasons,
-    olders: &mut Olders<'a>,
+    olders: &mut Olders,
 ) -> Result<(), Refusal>
     ensures seals { OnOk result (vec_len olders.new.seals ≡ vec_len olders.old.seals + length names.now) }
     ensures texts { OnOk result (vec_len olders.new.texts ≡ vec_len olders.old.texts + length names.now) }
@@ -142,11 +142,11 @@ fn lock_all<'a>(
 }
 
 /// Locks one more, for which there is room ahead of its lock: so none that is locked is forgotten.
-fn lock_one<'a>(
-    rt: &'a HostRuntime,
-    name: &'a str,
+fn lock_one(
+    rt: &HostRuntime,
+    name: &str,
     seasons: &Seasons,
-    olders: &mut Olders<'a>,
+    olders: &mut Olders,
 ) -> Result<(), Refusal>
     ensures seals { OnOk result (vec_len olders.new.seals ≡ vec_len olders.old.seals + 1) }
     ensures texts { OnOk result (vec_len olders.new.texts ≡ vec_len olders.old.texts + 1) }
@@ -172,18 +172,18 @@ fn lock_one<'a>(
 }
 
 /// Locks the journal of this name, which is none of those that are locked.
-fn open_locked<'a>(
-    rt: &'a HostRuntime,
-    name: &'a str,
+fn open_locked(
+    rt: &HostRuntime,
+    name: &str,
     seasons: &Seasons,
     journals: &[Input],
-) -> Result<(SealOut<'a>, Input), Refusal> {
+) -> Result<(SealOut, Input), Refusal> {
     let more = [&seasons.to.set, &seasons.to.limits];
     let files = files_taken(rt, &seasons.from, journals, &more)?;
     SealOut::open(rt, name, files.as_slice())
 }
 
-fn make_room(olders: &mut Olders<'_>) -> Result<(), Memory>
+fn make_room(olders: &mut Olders) -> Result<(), Memory>
     ensures seals { OnOk result (vec_len olders.new.seals < vec_capacity olders.new.seals) }
     ensures texts { OnOk result (vec_len olders.new.texts < vec_capacity olders.new.texts) }
     ensures journals { OnOk result (vec_len olders.new.journals < vec_capacity olders.new.journals) }
@@ -198,7 +198,7 @@ fn make_room(olders: &mut Olders<'_>) -> Result<(), Memory>
 }
 
 /// Adds one that is locked, for which there is room.
-fn add<'a>(olders: &mut Olders<'a>, seal: SealOut<'a>, text: Option<Items<u8>>, journal: Input)
+fn add(olders: &mut Olders, seal: SealOut, text: Option<Items<u8>>, journal: Input)
     requires room { vec_len olders.old.seals < vec_capacity olders.old.seals }
     requires room_of_text { vec_len olders.old.texts < vec_capacity olders.old.texts }
     requires room_of_journal { vec_len olders.old.journals < vec_capacity olders.old.journals }
@@ -212,14 +212,14 @@ fn add<'a>(olders: &mut Olders<'a>, seal: SealOut<'a>, text: Option<Items<u8>>, 
 }
 
 /// What is read, made and written under the locks.
-fn carried_locked<'a, R: Threads + Sync>(
-    rt: &'a HostRuntime,
+fn carried_locked<R: Threads + Sync>(
+    rt: &HostRuntime,
     threads: &R,
     meter: &Meter,
-    asked: &CarryJob<'a>,
+    asked: &CarryJob<'_>,
     asking: &CarryAsked<'_>,
     seasons: &mut Seasons,
-    olders: &mut Olders<'a>,
+    olders: &mut Olders,
 ) -> Result<bool, Refusal>
     requires from_first { IsOfCentury seasons.old.from.first }
     requires from_days { (1 ≤ seasons.old.from.days) × (seasons.old.from.days ≤ 366) }
@@ -243,15 +243,15 @@ fn carried_locked<'a, R: Threads + Sync>(
 }
 
 /// The same with the new journal under its lock.
-fn carried_to<'a, R: Threads + Sync>(
-    rt: &'a HostRuntime,
+fn carried_to<R: Threads + Sync>(
+    rt: &HostRuntime,
     threads: &R,
     meter: &Meter,
-    asked: &CarryJob<'a>,
+    asked: &CarryJob<'_>,
     asking: &CarryAsked<'_>,
     seasons: &mut Seasons,
-    olders: &mut Olders<'a>,
-    newer: &mut Newer<'a>,
+    olders: &mut Olders,
+    newer: &mut Newer,
 ) -> Result<bool, Refusal>
     requires from_first { IsOfCentury seasons.old.from.first }
     requires from_days { (1 ≤ seasons.old.from.days) × (seasons.old.from.days ≤ 366) }
@@ -286,11 +286,11 @@ fn carried_to<'a, R: Threads + Sync>(
 }
 
 /// What it would be, of which the report alone is written.
-pub(crate) fn tried_together<'a, R: Threads + Sync>(
-    rt: &'a HostRuntime,
+pub(crate) fn tried_together<R: Threads + Sync>(
+    rt: &HostRuntime,
     threads: &R,
     meter: &Meter,
-    asked: &CarryJob<'a>,
+    asked: &CarryJob<'_>,
     asking: &CarryAsked<'_>,
     seasons: &mut Seasons,
 ) -> Result<bool, Refusal>
@@ -482,12 +482,12 @@ fn made_together<R: Threads + Sync>(
 }
 
 /// Hands the journals' bookings over to the new one, where that may be written, and says the report again where they were handed over to it before.
-fn handed<'a>(
+fn handed(
     rt: &HostRuntime,
-    asked: &CarryJob<'a>,
+    asked: &CarryJob<'_>,
     joined: JoinedCarriage,
-    olders: &mut Olders<'a>,
-    newer: &mut Newer<'a>,
+    olders: &mut Olders,
+    newer: &mut Newer,
     out: &mut Output,
 ) -> Result<(), Refusal>
     requires imprint { joined.carriage.entry.journal.imprint ≡ imprint_of (front_of joined.carriage.text) }
@@ -605,7 +605,7 @@ fn hand_or_finish(hand: Option<Hand>) -> Hand
 }
 
 /// Why nothing may be written, of the journal of this name or of the new one.
-fn refused<'a>(refusal: HandRefusal, older: &'a str, new: &'a str) -> Refusal
+fn refused(refusal: HandRefusal, older: &str, new: &str) -> Refusal
     ensures { result.fault ≡ OfCarry (carry_kind refusal) }
 {
     match refusal {
@@ -616,16 +616,16 @@ fn refused<'a>(refusal: HandRefusal, older: &'a str, new: &'a str) -> Refusal
 
 /// Writes each mark, the new journal with its seal, and the report.
 #[tactic(auto, using(crate::proofs::Marked::say_slice))]
-fn put_together<'a>(
+fn put_together(
     rt: &HostRuntime,
-    asked: &CarryJob<'a>,
+    asked: &CarryJob<'_>,
     hands: &[Hand],
     last: Hand,
     carriage: Carriage,
     others: Belongings,
     before: SealEntry,
-    olders: &mut Olders<'a>,
-    newer: &mut Newer<'a>,
+    olders: &mut Olders,
+    newer: &mut Newer,
     out: &mut Output,
 ) -> Result<(), Refusal>
     requires known { is_sealed carriage.known ≡ true }
@@ -678,10 +678,7 @@ fn put_together<'a>(
         Ok(()) => Ok(()),
         Err(HandFault::TakenBack) => Err(failed_together(olders, newer)),
         Err(HandFault::Unfinished) => {
-            let file = Shown { name: asked.new };
-            let _ = eprintln!(rt;
-                "seatdesk: note: the bookings are on their way to {file}: the same carry is to be sent again"
-            );
+            tell_unfinished(rt, asked.new);
             Err(failed_together(olders, newer))
         }
         Err(HandFault::Unsaid) => Err(Refusal::from(DeskFault::Device).noting_output(out)),
@@ -689,7 +686,7 @@ fn put_together<'a>(
 }
 
 /// Whose failure it was.
-fn failed_together<'a>(olders: &Olders<'a>, newer: &Newer<'a>) -> Refusal {
+fn failed_together(olders: &Olders, newer: &Newer) -> Refusal {
     let mut refusal = Refusal::from(DeskFault::Device)
         .noting_journal(&newer.journal)
         .noting_seal(&newer.seal);

@@ -21,22 +21,22 @@ const MOST_SCRIPT_BYTES: u64 = 16_777_216;
 /// Reads rows of changes, none where there is no byte, and at most eight scripts, the first that of session 1, and writes where they go among so many shards: a
 /// line for each row, and behind them one for each segment line, session by session, with its shard, its session and the number of its line. Each input has at most
 /// 16 MiB, and is read and checked before the next is read; nothing is written before all are right.
-pub fn desk_route<D: NotedRead, C: NotedRead, W: NotedWrite>(
+pub fn desk_route<I: NotedRead, W: NotedWrite>(
     alloc: Global,
     shards: u16,
-    changes: &mut D,
-    scripts: &mut [C],
+    changes: &mut I,
+    scripts: &mut [I],
     out: &mut W,
 ) -> Result<(), DeskFault>
     requires shards { 1 ≤ shards }
     requires few { length scripts.old ≤ 8 }
-    ensures ok { OnOk result (IsWritten (IsRouteText shards (D.remaining changes.old) (map C.remaining scripts.old)) (W.contents out.old)
+    ensures ok { OnOk result (IsWritten (IsRouteText shards (I.remaining changes.old) (map I.remaining scripts.old)) (W.contents out.old)
         (W.contents out.new)) }
-    ensures fault { IfErr result (λ f. IsOfInput f → IsRefusedRoute (D.remaining changes.old) (map C.remaining scripts.old) f) }
-    ensures large { IfErr result (λ f. f ≡ DeskFault.TooLarge → IsTooLargeRoute (D.remaining changes.old) (map C.remaining scripts.old)) }
+    ensures fault { IfErr result (λ f. IsOfInput f → IsRefusedRoute (I.remaining changes.old) (map I.remaining scripts.old) f) }
+    ensures large { IfErr result (λ f. f ≡ DeskFault.TooLarge → IsTooLargeRoute (I.remaining changes.old) (map I.remaining scripts.old)) }
     ensures device { IfErr result (λ f. f ≡ DeskFault.Device →
-        InputFailed (HasFailedRoute D.remaining D.failure_count C.remaining C.failure_count changes.old changes.new scripts.old scripts.new) out.old out.new
-        ⊎ OutputFailed W.failure_count W.contents out.old out.new (IsRouteText shards (D.remaining changes.old) (map C.remaining scripts.old))) }
+        InputFailed (HasFailedRoute I.remaining I.failure_count I.remaining I.failure_count changes.old changes.new scripts.old scripts.new) out.old out.new
+        ⊎ OutputFailed W.failure_count W.contents out.old out.new (IsRouteText shards (I.remaining changes.old) (map I.remaining scripts.old))) }
     ensures untouched { IfErr result (λ f. f ≢ DeskFault.Device → out.new ≡ out.old) }
 {
     let text = routed(alloc, shards, changes, scripts)?;
@@ -47,19 +47,19 @@ pub fn desk_route<D: NotedRead, C: NotedRead, W: NotedWrite>(
 }
 
 /// Where all of it goes.
-fn routed<D: NotedRead, C: NotedRead>(
+fn routed<I: NotedRead>(
     alloc: Global,
     shards: u16,
-    changes: &mut D,
-    scripts: &mut [C],
+    changes: &mut I,
+    scripts: &mut [I],
 ) -> Result<Vec<u8>, DeskFault>
     requires shards { 1 ≤ shards }
     requires few { length scripts.old ≤ 8 }
-    ensures ok { IfOk result (λ text. IsRouteText shards (D.remaining changes.old) (map C.remaining scripts.old) text.items) }
-    ensures fault { IfErr result (λ f. IsOfInput f → IsRefusedRoute (D.remaining changes.old) (map C.remaining scripts.old) f) }
-    ensures large { IfErr result (λ f. f ≡ DeskFault.TooLarge → IsTooLargeRoute (D.remaining changes.old) (map C.remaining scripts.old)) }
+    ensures ok { IfOk result (λ text. IsRouteText shards (I.remaining changes.old) (map I.remaining scripts.old) text.items) }
+    ensures fault { IfErr result (λ f. IsOfInput f → IsRefusedRoute (I.remaining changes.old) (map I.remaining scripts.old) f) }
+    ensures large { IfErr result (λ f. f ≡ DeskFault.TooLarge → IsTooLargeRoute (I.remaining changes.old) (map I.remaining scripts.old)) }
     ensures device { IfErr result (λ f. f ≡ DeskFault.Device
-        → HasFailedRoute D.remaining D.failure_count C.remaining C.failure_count changes.old changes.new scripts.old scripts.new) }
+        → HasFailedRoute I.remaining I.failure_count I.remaining I.failure_count changes.old changes.new scripts.old scripts.new) }
 {
     let mut text = rows_routed(alloc, shards, changes)?;
     scripts_routed(alloc, shards, scripts, 1, &mut text)?;

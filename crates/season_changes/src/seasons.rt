@@ -18,13 +18,13 @@ use std::thread::Threads;
 /// where there is one; else it is a journal without lines. The new season is read and checked first, then the old one, and last the journal;
 /// nothing is written before all are right. The first days are in 2000 to 2099, and each has 1 to 366.
 #[tactic(auto, using(crate::proofs::TwoSeasons::about_both))]
-pub fn desk_compare<R: Threads + Sync, S: NotedRead, L: NotedRead, J: NotedRead, W: NotedWrite>(
+pub fn desk_compare<R: Threads + Sync, I: NotedRead, W: NotedWrite>(
     rt: &R,
     alloc: Global,
-    from: &mut Inputs<S, L>,
-    to: &mut Inputs<S, L>,
+    from: &mut Inputs<I, I>,
+    to: &mut Inputs<I, I>,
     has_journal: bool,
-    journal: &mut J,
+    journal: &mut I,
     beside: &Beside<'_>,
     out: &mut W,
 ) -> Result<(), SeasonFault>
@@ -32,15 +32,15 @@ pub fn desk_compare<R: Threads + Sync, S: NotedRead, L: NotedRead, J: NotedRead,
     requires from_days { (1 ≤ from.old.days) × (from.old.days ≤ 366) }
     requires to_first { IsOfCentury to.old.first }
     requires to_days { (1 ≤ to.old.days) × (to.old.days ≤ 366) }
-    ensures ok { OnOk result (IsAbout S.remaining L.remaining from.old to.old has_journal
-        (λ asked. IsWritten (IsAnswerOf (answers_of asked) beside.now S.remaining L.remaining from.old (J.remaining journal.old))
+    ensures ok { OnOk result (IsAbout I.remaining I.remaining from.old to.old has_journal
+        (λ asked. IsWritten (IsAnswerOf (answers_of asked) beside.now I.remaining I.remaining from.old (I.remaining journal.old))
         (W.contents out.old) (W.contents out.new))) }
-    ensures fault { IfErr result (λ f. IsRefusedOf S.remaining L.remaining from.old to.old (J.remaining journal.old) beside.now
+    ensures fault { IfErr result (λ f. IsRefusedOf I.remaining I.remaining from.old to.old (I.remaining journal.old) beside.now
         f.is_new f.fault) }
     ensures large { IfErr result (λ f. f.fault ≡ DeskFault.TooLarge
-        → IsTooLargeOf S.remaining L.remaining from.old to.old (J.remaining journal.old) f.is_new) }
+        → IsTooLargeOf I.remaining I.remaining from.old to.old (I.remaining journal.old) f.is_new) }
     ensures device { IfErr result (λ f. f.fault ≡ DeskFault.Device
-        → HasFailedOf S.remaining L.remaining S.failure_count L.failure_count J.remaining J.failure_count W.contents W.failure_count from.old from.new
+        → HasFailedOf I.remaining I.remaining I.failure_count I.failure_count I.remaining I.failure_count W.contents W.failure_count from.old from.new
         to.old to.new has_journal journal.old journal.new beside.now out.old out.new f.is_new) }
     ensures untouched { IfErr result (λ f. f.fault ≢ DeskFault.Device → out.new ≡ out.old) }
 {

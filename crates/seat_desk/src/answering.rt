@@ -20,35 +20,28 @@ use std::thread::Threads;
 /// the next is read, what stands beside the journal is compared with them ahead of the journal's own faults, and nothing is written
 /// before all are right. The first day is in 2000 to 2099, `days` is 1 to 366;
 /// a set and a journal have at most 256 MiB, limit rows at most 16 MiB. The journal's text is of either version.
-pub fn answer_question<
-    R: Threads + Sync,
-    Q: Question,
-    S: NotedRead,
-    L: NotedRead,
-    J: NotedRead,
-    W: NotedWrite,
->(
+pub fn answer_question<R: Threads + Sync, Q: Question, I: NotedRead, W: NotedWrite>(
     rt: &R,
     alloc: Global,
     question: &Q,
-    inputs: &mut Inputs<S, L>,
-    journal: &mut J,
+    inputs: &mut Inputs<I, I>,
+    journal: &mut I,
     beside: &Beside<'_>,
     out: &mut W,
 ) -> Result<(), DeskFault>
     requires first { IsOfCentury inputs.old.first }
     requires days { (1 ≤ inputs.old.days) × (inputs.old.days ≤ 366) }
     ensures ok { OnOk result (IsWritten
-        (IsAnswerOf (Q.answers question.now) beside.now S.remaining L.remaining inputs.old (J.remaining journal.old)) (W.contents out.old) (W.contents out.new)) }
+        (IsAnswerOf (Q.answers question.now) beside.now I.remaining I.remaining inputs.old (I.remaining journal.old)) (W.contents out.old) (W.contents out.new)) }
     ensures fault { IfErr result (λ f. IsOfInput f →
-        IsRefusedAnswerOf (Q.refuses question.now) beside.now S.remaining L.remaining inputs.old (J.remaining journal.old) f) }
+        IsRefusedAnswerOf (Q.refuses question.now) beside.now I.remaining I.remaining inputs.old (I.remaining journal.old) f) }
     ensures large { IfErr result (λ f. f ≡ DeskFault.TooLarge
-        → IsFirstTooLargeOf S.remaining L.remaining inputs.old (J.remaining journal.old)) }
+        → IsFirstTooLargeOf I.remaining I.remaining inputs.old (I.remaining journal.old)) }
     ensures device { IfErr result (λ f. f ≡ DeskFault.Device →
-        InputFailed (HasFirstFailed S.remaining L.remaining S.failure_count L.failure_count J.failure_count inputs.old inputs.new journal.old journal.new)
+        InputFailed (HasFirstFailed I.remaining I.remaining I.failure_count I.failure_count I.failure_count inputs.old inputs.new journal.old journal.new)
         out.old out.new
         ⊎ OutputFailed W.failure_count W.contents out.old out.new
-        (IsAnswerOf (Q.answers question.now) beside.now S.remaining L.remaining inputs.old (J.remaining journal.old))) }
+        (IsAnswerOf (Q.answers question.now) beside.now I.remaining I.remaining inputs.old (I.remaining journal.old))) }
     ensures untouched { IfErr result (λ f. f ≢ DeskFault.Device → out.new ≡ out.old) }
 {
     let text = match answered(rt, alloc, question, inputs, journal, beside) {
@@ -62,24 +55,24 @@ pub fn answer_question<
 }
 
 /// The text that answers a question about the inputs.
-fn answered<R: Threads + Sync, Q: Question, S: NotedRead, L: NotedRead, J: NotedRead>(
+fn answered<R: Threads + Sync, Q: Question, I: NotedRead>(
     rt: &R,
     alloc: Global,
     question: &Q,
-    inputs: &mut Inputs<S, L>,
-    journal: &mut J,
+    inputs: &mut Inputs<I, I>,
+    journal: &mut I,
     beside: &Beside<'_>,
 ) -> Result<Vec<u8>, DeskFault>
     requires first { IsOfCentury inputs.old.first }
     requires days { (1 ≤ inputs.old.days) × (inputs.old.days ≤ 366) }
-    ensures ok { IfOk result (λ text. IsAnswerOf (Q.answers question.now) beside.now S.remaining L.remaining inputs.old
-        (J.remaining journal.old) text.items) }
+    ensures ok { IfOk result (λ text. IsAnswerOf (Q.answers question.now) beside.now I.remaining I.remaining inputs.old
+        (I.remaining journal.old) text.items) }
     ensures fault { IfErr result (λ f. IsOfInput f →
-        IsRefusedAnswerOf (Q.refuses question.now) beside.now S.remaining L.remaining inputs.old (J.remaining journal.old) f) }
+        IsRefusedAnswerOf (Q.refuses question.now) beside.now I.remaining I.remaining inputs.old (I.remaining journal.old) f) }
     ensures large { IfErr result (λ f. f ≡ DeskFault.TooLarge
-        → IsFirstTooLargeOf S.remaining L.remaining inputs.old (J.remaining journal.old)) }
+        → IsFirstTooLargeOf I.remaining I.remaining inputs.old (I.remaining journal.old)) }
     ensures device { IfErr result (λ f. f ≡ DeskFault.Device →
-        HasFirstFailed S.remaining L.remaining S.failure_count L.failure_count J.failure_count inputs.old inputs.new journal.old journal.new) }
+        HasFirstFailed I.remaining I.remaining I.failure_count I.failure_count I.failure_count inputs.old inputs.new journal.old journal.new) }
 {
     let based = match load_based(alloc, inputs, beside.text.is_some()) {
         Ok(based) => based,

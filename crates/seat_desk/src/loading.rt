@@ -35,25 +35,22 @@ pub struct Loaded {
 
 /// The flights of a data set and the grid that limit rows give them, each input read and checked before the next is read.
 /// No leg of that grid has a class twice: [`loaded_ladders_differ`](crate::loaded_ladders_differ).
-pub fn load<S: NotedRead, L: NotedRead>(
-    alloc: Global,
-    inputs: &mut Inputs<S, L>,
-) -> Result<Loaded, DeskFault>
+pub fn load<I: NotedRead>(alloc: Global, inputs: &mut Inputs<I, I>) -> Result<Loaded, DeskFault>
     requires first { IsOfCentury inputs.old.first }
     requires days { (1 ≤ inputs.old.days) × (inputs.old.days ≤ 366) }
-    ensures ok { IfOk result (λ loaded. IsLoadedOf S.remaining L.remaining inputs.old loaded.flights loaded.grid) }
+    ensures ok { IfOk result (λ loaded. IsLoadedOf I.remaining I.remaining inputs.old loaded.flights loaded.grid) }
     ensures grid { IfOk result (λ loaded. IsGridOf loaded.flights loaded.grid) }
-    ensures rows { IfOk result (λ loaded. IsGroundOf S.remaining L.remaining inputs.old loaded.flights loaded.rows) }
+    ensures rows { IfOk result (λ loaded. IsGroundOf I.remaining I.remaining inputs.old loaded.flights loaded.rows) }
     ensures ladders { IfOk result (λ loaded. loaded.grid ≡ authorised_grid loaded.rows loaded.flights) }
-    ensures fault { IfErr result (λ f. IsOfInput f → IsRefusedLoadOf S.remaining L.remaining inputs.old f) }
-    ensures large { IfErr result (λ f. f ≡ DeskFault.TooLarge → IsTooLargeLoadOf S.remaining L.remaining inputs.old) }
+    ensures fault { IfErr result (λ f. IsOfInput f → IsRefusedLoadOf I.remaining I.remaining inputs.old f) }
+    ensures large { IfErr result (λ f. f ≡ DeskFault.TooLarge → IsTooLargeLoadOf I.remaining I.remaining inputs.old) }
     ensures device { IfErr result (λ f. f ≡ DeskFault.Device
-        → HaveFailed S.failure_count L.failure_count inputs.old inputs.new) }
+        → HaveFailed I.failure_count I.failure_count inputs.old inputs.new) }
     // The limits are at fault only behind a set that is right.
     ensures first_large { IfErr result
-        (λ f. f ≡ DeskFault.TooLarge → IsFirstTooLargeLoadOf S.remaining L.remaining inputs.old) }
+        (λ f. f ≡ DeskFault.TooLarge → IsFirstTooLargeLoadOf I.remaining I.remaining inputs.old) }
     ensures first_failed { IfErr result (λ f. f ≡ DeskFault.Device →
-        HasFirstLoadFailed S.remaining S.failure_count L.failure_count inputs.old inputs.new) }
+        HasFirstLoadFailed I.remaining I.failure_count I.failure_count inputs.old inputs.new) }
 {
     let Based { loaded, .. } = load_based(alloc, inputs, false)?;
     Ok(loaded)
@@ -67,27 +64,27 @@ pub struct Based {
 }
 
 /// Loads as [`load`] does, and takes the digests of what it reads where they are asked for.
-pub fn load_based<S: NotedRead, L: NotedRead>(
+pub fn load_based<I: NotedRead>(
     alloc: Global,
-    inputs: &mut Inputs<S, L>,
+    inputs: &mut Inputs<I, I>,
     has_seal: bool,
 ) -> Result<Based, DeskFault>
     requires first { IsOfCentury inputs.old.first }
     requires days { (1 ≤ inputs.old.days) × (inputs.old.days ≤ 366) }
-    ensures ok { IfOk result (λ b. IsLoadedOf S.remaining L.remaining inputs.old b.loaded.flights b.loaded.grid) }
+    ensures ok { IfOk result (λ b. IsLoadedOf I.remaining I.remaining inputs.old b.loaded.flights b.loaded.grid) }
     ensures grid { IfOk result (λ b. IsGridOf b.loaded.flights b.loaded.grid) }
-    ensures rows { IfOk result (λ b. IsGroundOf S.remaining L.remaining inputs.old b.loaded.flights b.loaded.rows) }
+    ensures rows { IfOk result (λ b. IsGroundOf I.remaining I.remaining inputs.old b.loaded.flights b.loaded.rows) }
     ensures ladders { IfOk result (λ b. b.loaded.grid ≡ authorised_grid b.loaded.rows b.loaded.flights) }
-    ensures fault { IfErr result (λ f. IsOfInput f → IsRefusedLoadOf S.remaining L.remaining inputs.old f) }
-    ensures large { IfErr result (λ f. f ≡ DeskFault.TooLarge → IsTooLargeLoadOf S.remaining L.remaining inputs.old) }
+    ensures fault { IfErr result (λ f. IsOfInput f → IsRefusedLoadOf I.remaining I.remaining inputs.old f) }
+    ensures large { IfErr result (λ f. f ≡ DeskFault.TooLarge → IsTooLargeLoadOf I.remaining I.remaining inputs.old) }
     ensures device { IfErr result (λ f. f ≡ DeskFault.Device
-        → HaveFailed S.failure_count L.failure_count inputs.old inputs.new) }
+        → HaveFailed I.failure_count I.failure_count inputs.old inputs.new) }
     // The limits are at fault only behind a set that is right.
     ensures first_large { IfErr result
-        (λ f. f ≡ DeskFault.TooLarge → IsFirstTooLargeLoadOf S.remaining L.remaining inputs.old) }
+        (λ f. f ≡ DeskFault.TooLarge → IsFirstTooLargeLoadOf I.remaining I.remaining inputs.old) }
     ensures first_failed { IfErr result (λ f. f ≡ DeskFault.Device →
-        HasFirstLoadFailed S.remaining S.failure_count L.failure_count inputs.old inputs.new) }
-    ensures basis { IfOk result (λ b. IsTrue has_seal → IsBasisOf S.remaining L.remaining inputs.old b.basis) }
+        HasFirstLoadFailed I.remaining I.failure_count I.failure_count inputs.old inputs.new) }
+    ensures basis { IfOk result (λ b. IsTrue has_seal → IsBasisOf I.remaining I.remaining inputs.old b.basis) }
 {
     let (flights, set) = match read_flights(
         alloc,

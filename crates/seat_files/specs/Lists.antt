@@ -1,5 +1,5 @@
 -- A list, where it is put, and the journal that it is put ahead of.
-use Rattle.std.specs.Prelude.{◌≡◌, ◌⊎◌, ℕ, Bool, false, List, Option, Some, IfSome, IsTrue, if◌then◌else◌}
+use Rattle.std.specs.Prelude.{◌≡◌, ◌⊎◌, ℕ, Bool, false, List, Option, Some, IfSome, IsTrue, if◌then◌else◌, string_bytes}
 use Rattle.std.specs.List.{count_by}
 use Rattle.std.specs.Vec.{vec_items}
 use Rattle.airline_base.specs.Lines.{is_line_feed}
@@ -10,7 +10,7 @@ use Rattle.seat_files.specs.declared.journal_file.Target.TheVariants.{Stream, Re
 
 -- the name of its file
 abbrev pub list_name : ListFile → List ℕ
-list_name s = s.name.now
+list_name s = string_bytes s.paths.name
 
 -- what the file gets
 abbrev pub list_held : ListFile → List ℕ

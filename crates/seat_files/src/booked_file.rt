@@ -7,10 +7,9 @@ use crate::file_fault::Part;
 use crate::refusal::Refusal;
 use crate::seal_file::SealFile;
 use crate::streams::{Input, bytes_of, opened_file};
+use booked_texts::imprint_beside;
 use seat_desk::DeskFault;
-use seat_seal::{
-    Seal, SealEntry, SealFault, changes_booked, imprint_beside, read_seal, scripts_booked,
-};
+use seat_seal::{Seal, SealEntry, SealFault, changes_booked, read_seal, scripts_booked};
 
 /// The most bytes of a script or of changes that are read once more.
 const MOST_BYTES: u64 = 16_777_216;

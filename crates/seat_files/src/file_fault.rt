@@ -29,7 +29,7 @@ pub enum Part {
 
 impl Part {
     /// What its name ends with behind the other.
-    fn ending(self) -> &'static str {
+    pub(crate) fn ending(self) -> &'static str {
         match self {
             Part::Named => "",
             Part::Unfinished => UNFINISHED,

@@ -14,20 +14,24 @@ use std::{fs, io};
 
 /// The file that a journal is to be written to, as it is before that.
 #[derive(Drop)]
-pub struct Guard<'a> {
-    path: &'a str,
+pub struct Guard {
+    path: String,
     there: Option<Metadata>,
 }
 
-impl<'a> Guard<'a> {
+impl Guard {
     /// Looks at the file. Only a regular one is looked at: a pipe or a device may be written to at any time. A name that a journal may
     /// not have is refused.
-    pub fn new(rt: &HostRuntime, path: &'a str) -> Result<Guard<'a>, Refusal>
+    pub fn new(rt: &HostRuntime, path: &str) -> Result<Guard, Refusal>
         ensures refused { IfErr result (λ refusal. IsTrue (is_of_file refusal.fault)) }
     {
-        match there_at(rt, path) {
-            Ok(there) => Ok(Guard { path, there }),
-            Err(fault) => Err(Refusal::of_file(path, fault)),
+        let there = match there_at(rt, path) {
+            Ok(there) => there,
+            Err(fault) => return Err(Refusal::of_file(path, fault)),
+        };
+        match String::from_str(rt.alloc(), path) {
+            Ok(path) => Ok(Guard { path, there }),
+            Err(_) => Err(Refusal::of_file(path, FileFault::Failed(Failure::Memory))),
         }
     }
 
@@ -66,7 +70,7 @@ impl<'a> Guard<'a> {
     {
         match self.pass_standard(rt) {
             Ok(()) => Ok(()),
-            Err(fault) => Err(Refusal::of_file(self.path, fault)),
+            Err(fault) => Err(Refusal::of_file(self.path.as_str(), fault)),
         }
     }
 
@@ -86,14 +90,15 @@ impl<'a> Guard<'a> {
     {
         match &self.there {
             Some(file) if file.len() > 0 => {
-                Err(Refusal::of_file(self.path, FileFault::Barred(Bar::NotEmpty)))
+                let fault = FileFault::Barred(Bar::NotEmpty);
+                Err(Refusal::of_file(self.path.as_str(), fault))
             }
             _ => Ok(()),
         }
     }
 
     fn pass_one(&self, input: &Input) -> Result<(), FileFault> {
-        if !self.path.is_empty() && input.name() == self.path {
+        if !self.path.is_empty() && input.name() == self.path.as_str() {
             return Err(FileFault::Barred(Bar::Another));
         }
         let Some(there) = &self.there else {
@@ -113,7 +118,7 @@ impl<'a> Guard<'a> {
     {
         match fault {
             FileFault::Failed(failure) => Refusal::failed(input.name(), failure),
-            FileFault::Barred(_) => Refusal::of_file(self.path, fault),
+            FileFault::Barred(_) => Refusal::of_file(self.path.as_str(), fault),
         }
     }
 }

@@ -340,7 +340,7 @@ impl Refusal {
     }
 
     /// The same for the file of a journal, and for the list that is put ahead of it.
-    pub fn noting_journal(self, journal: &JournalFile<'_>) -> Refusal
+    pub fn noting_journal(self, journal: &JournalFile) -> Refusal
         ensures { result.fault ≡ self.fault }
     {
         match self.fault {
@@ -379,7 +379,7 @@ impl Refusal {
     }
 
     /// The same for the seal of a journal.
-    pub fn noting_seal(self, seal: &SealOut<'_>) -> Refusal
+    pub fn noting_seal(self, seal: &SealOut) -> Refusal
         ensures { result.fault ≡ self.fault }
     {
         match self.fault {

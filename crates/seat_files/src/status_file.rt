@@ -77,7 +77,7 @@ fn pass(
 
 fn pass_inputs(
     rt: &HostRuntime,
-    guard: &Guard<'_>,
+    guard: &Guard,
     inputs: &Inputs<Input, Input>,
     journal: &str,
 ) -> Result<(), Refusal> {

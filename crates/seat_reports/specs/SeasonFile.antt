@@ -28,14 +28,23 @@ quoted name = codes "\"" ++ (escaped name ++ codes "\"")
 abbrev pub date_text : ℕ → ℕ → ℕ → List ℕ
 date_text year month day = two_digits (year / 100) ++ two_digits (year % 100) ++ codes "-" ++ two_digits month ++ codes "-" ++ two_digits day
 
+-- the lines of the names, of the first day, and of the count of days
+abbrev pub names_text : List ℕ → List ℕ → List ℕ
+names_text set limits = codes "set = " ++ quoted set ++ codes "\nlimits = " ++ quoted limits
+
+abbrev pub first_text : ℕ → ℕ → ℕ → List ℕ
+first_text year month day = codes "\nfirst = " ++ date_text year month day
+
+abbrev pub days_text : ℕ → List ℕ
+days_text days = codes "\ndays = " ++ decimal days ++ codes "\n"
+
 -- the text names the set and the limits, and has the set's first day and its days
 pub record IsSeasonFile (set limits : List ℕ) (data_set : DataSet) (text : List ℕ) : Type 0 where
   pub year : ℕ
   pub month : ℕ
   pub day : ℕ
   pub first : IsDate year month day (first_of data_set)
-  pub written : text ≡ codes "set = " ++ quoted set ++ codes "\nlimits = " ++ quoted limits
-      ++ codes "\nfirst = " ++ date_text year month day ++ codes "\ndays = " ++ decimal (days_of data_set) ++ codes "\n"
+  pub written : text ≡ names_text set limits ++ first_text year month day ++ days_text (days_of data_set)
 
 -- the bytes are not too large, and the text begins a season of the data set that they are
 pub record Begins (set limits bytes text : List ℕ) : Type 0 where

@@ -39,27 +39,27 @@ impl Question for Audit {
 }
 
 /// Audits a journal as [`answer_question`](seat_desk::answer_question) does with [`Audit`], a long one on all processors.
-pub fn desk_audit<R: Threads + Sync, S: NotedRead, L: NotedRead, J: NotedRead, W: NotedWrite>(
+pub fn desk_audit<R: Threads + Sync, I: NotedRead, W: NotedWrite>(
     rt: &R,
     alloc: Global,
-    inputs: &mut Inputs<S, L>,
-    journal: &mut J,
+    inputs: &mut Inputs<I, I>,
+    journal: &mut I,
     beside: &Beside<'_>,
     out: &mut W,
 ) -> Result<(), DeskFault>
     requires first { IsOfCentury inputs.old.first }
     requires days { (1 ≤ inputs.old.days) × (inputs.old.days ≤ 366) }
     ensures ok { OnOk result (IsWritten
-        (IsAnswerOf (λ flights rows. IsAudited) beside.now S.remaining L.remaining inputs.old (J.remaining journal.old)) (W.contents out.old) (W.contents out.new)) }
+        (IsAnswerOf (λ flights rows. IsAudited) beside.now I.remaining I.remaining inputs.old (I.remaining journal.old)) (W.contents out.old) (W.contents out.new)) }
     ensures fault { IfErr result (λ f. IsOfInput f →
-        IsRefusedAnswerOf IsUnlawful beside.now S.remaining L.remaining inputs.old (J.remaining journal.old) f) }
+        IsRefusedAnswerOf IsUnlawful beside.now I.remaining I.remaining inputs.old (I.remaining journal.old) f) }
     ensures large { IfErr result (λ f. f ≡ DeskFault.TooLarge
-        → IsFirstTooLargeOf S.remaining L.remaining inputs.old (J.remaining journal.old)) }
+        → IsFirstTooLargeOf I.remaining I.remaining inputs.old (I.remaining journal.old)) }
     ensures device { IfErr result (λ f. f ≡ DeskFault.Device →
-        InputFailed (HasFirstFailed S.remaining L.remaining S.failure_count L.failure_count J.failure_count inputs.old inputs.new journal.old journal.new)
+        InputFailed (HasFirstFailed I.remaining I.remaining I.failure_count I.failure_count I.failure_count inputs.old inputs.new journal.old journal.new)
         out.old out.new
         ⊎ OutputFailed W.failure_count W.contents out.old out.new
-        (IsAnswerOf (λ flights rows. IsAudited) beside.now S.remaining L.remaining inputs.old (J.remaining journal.old))) }
+        (IsAnswerOf (λ flights rows. IsAudited) beside.now I.remaining I.remaining inputs.old (I.remaining journal.old))) }
     ensures untouched { IfErr result (λ f. f ≢ DeskFault.Device → out.new ≡ out.old) }
 {
     let line = match audited(rt, alloc, inputs, journal, beside) {
@@ -73,23 +73,23 @@ pub fn desk_audit<R: Threads + Sync, S: NotedRead, L: NotedRead, J: NotedRead, W
 }
 
 /// The line of a journal that is audited, each input read and checked before the next.
-fn audited<R: Threads + Sync, S: NotedRead, L: NotedRead, J: NotedRead>(
+fn audited<R: Threads + Sync, I: NotedRead>(
     rt: &R,
     alloc: Global,
-    inputs: &mut Inputs<S, L>,
-    journal: &mut J,
+    inputs: &mut Inputs<I, I>,
+    journal: &mut I,
     beside: &Beside<'_>,
 ) -> Result<Vec<u8>, DeskFault>
     requires first { IsOfCentury inputs.old.first }
     requires days { (1 ≤ inputs.old.days) × (inputs.old.days ≤ 366) }
-    ensures ok { IfOk result (λ line. IsAnswerOf (λ flights rows. IsAudited) beside.now S.remaining L.remaining inputs.old
-        (J.remaining journal.old) line.items) }
+    ensures ok { IfOk result (λ line. IsAnswerOf (λ flights rows. IsAudited) beside.now I.remaining I.remaining inputs.old
+        (I.remaining journal.old) line.items) }
     ensures fault { IfErr result (λ f. IsOfInput f →
-        IsRefusedAnswerOf IsUnlawful beside.now S.remaining L.remaining inputs.old (J.remaining journal.old) f) }
+        IsRefusedAnswerOf IsUnlawful beside.now I.remaining I.remaining inputs.old (I.remaining journal.old) f) }
     ensures large { IfErr result (λ f. f ≡ DeskFault.TooLarge
-        → IsFirstTooLargeOf S.remaining L.remaining inputs.old (J.remaining journal.old)) }
+        → IsFirstTooLargeOf I.remaining I.remaining inputs.old (I.remaining journal.old)) }
     ensures device { IfErr result (λ f. f ≡ DeskFault.Device →
-        HasFirstFailed S.remaining L.remaining S.failure_count L.failure_count J.failure_count inputs.old inputs.new journal.old journal.new) }
+        HasFirstFailed I.remaining I.remaining I.failure_count I.failure_count I.failure_count inputs.old inputs.new journal.old journal.new) }
 {
     let based = match load_based(alloc, inputs, beside.text.is_some()) {
         Ok(based) => based,

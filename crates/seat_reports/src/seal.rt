@@ -32,28 +32,28 @@ use std::thread::Threads;
 /// moment a crash leaves what it would have left before, or the new seal, whole. It is closed, and has the era and the runs that what stands beside
 /// the journal so far knows, where that has no fault, and else none; a run that began behind more lines than the journal has is of
 /// another journal, and refused. What an audit refuses is refused here. A long journal is read and replayed on all processors.
-pub fn desk_seal<R: Threads + Sync, S: NotedRead, L: NotedRead, J: NotedRead, K: Replaced>(
+pub fn desk_seal<R: Threads + Sync, I: NotedRead, K: Replaced>(
     rt: &R,
     alloc: Global,
-    inputs: &mut Inputs<S, L>,
-    journal: &mut J,
+    inputs: &mut Inputs<I, I>,
+    journal: &mut I,
     beside: &Beside<'_>,
     seal: &mut K,
 ) -> Result<(), DeskFault>
     requires first { IsOfCentury inputs.old.first }
     requires days { (1 ≤ inputs.old.days) × (inputs.old.days ≤ 366) }
-    ensures ok { OnOk result (IsPut (IsSealOfKnown beside.now S.remaining L.remaining inputs.old (J.remaining journal.old))
+    ensures ok { OnOk result (IsPut (IsSealOfKnown beside.now I.remaining I.remaining inputs.old (I.remaining journal.old))
         (K.named seal.old) (K.named seal.new) (K.may_leave seal.new)) }
     ensures fault { IfErr result (λ f. IsOfInput f →
-        IsRefusedAnswerOf IsUnlawful nothing S.remaining L.remaining inputs.old (J.remaining journal.old) f
-        ⊎ IsMisnumberedOf beside.now S.remaining L.remaining inputs.old (J.remaining journal.old) f) }
+        IsRefusedAnswerOf IsUnlawful nothing I.remaining I.remaining inputs.old (I.remaining journal.old) f
+        ⊎ IsMisnumberedOf beside.now I.remaining I.remaining inputs.old (I.remaining journal.old) f) }
     ensures large { IfErr result (λ f. f ≡ DeskFault.TooLarge
-        → IsFirstTooLargeOf S.remaining L.remaining inputs.old (J.remaining journal.old)) }
+        → IsFirstTooLargeOf I.remaining I.remaining inputs.old (I.remaining journal.old)) }
     ensures device { IfErr result (λ f. f ≡ DeskFault.Device →
-        InputFailed (HasFirstFailed S.remaining L.remaining S.failure_count L.failure_count J.failure_count inputs.old inputs.new journal.old journal.new)
+        InputFailed (HasFirstFailed I.remaining I.remaining I.failure_count I.failure_count I.failure_count inputs.old inputs.new journal.old journal.new)
         seal.old seal.new
         ⊎ PuttingFailed K.failure_count K.named seal.old seal.new
-        (IsSealOfKnown beside.now S.remaining L.remaining inputs.old (J.remaining journal.old))) }
+        (IsSealOfKnown beside.now I.remaining I.remaining inputs.old (I.remaining journal.old))) }
     ensures untouched { IfErr result (λ f. f ≢ DeskFault.Device → seal.new ≡ seal.old) }
     ensures only { KeepsNoMore (K.kept_may_leave seal.old) (K.kept_may_leave seal.new) }
 {
@@ -68,24 +68,24 @@ pub fn desk_seal<R: Threads + Sync, S: NotedRead, L: NotedRead, J: NotedRead, K:
 }
 
 /// The text of a journal's seal.
-fn sealed<R: Threads + Sync, S: NotedRead, L: NotedRead, J: NotedRead>(
+fn sealed<R: Threads + Sync, I: NotedRead>(
     rt: &R,
     alloc: Global,
-    inputs: &mut Inputs<S, L>,
-    journal: &mut J,
+    inputs: &mut Inputs<I, I>,
+    journal: &mut I,
     beside: &Beside<'_>,
 ) -> Result<SealText, DeskFault>
     requires first { IsOfCentury inputs.old.first }
     requires days { (1 ≤ inputs.old.days) × (inputs.old.days ≤ 366) }
     ensures ok { IfOk result
-        (λ text. IsSealOfKnown beside.now S.remaining L.remaining inputs.old (J.remaining journal.old) text.items) }
+        (λ text. IsSealOfKnown beside.now I.remaining I.remaining inputs.old (I.remaining journal.old) text.items) }
     ensures fault { IfErr result (λ f. IsOfInput f →
-        IsRefusedAnswerOf IsUnlawful nothing S.remaining L.remaining inputs.old (J.remaining journal.old) f
-        ⊎ IsMisnumberedOf beside.now S.remaining L.remaining inputs.old (J.remaining journal.old) f) }
+        IsRefusedAnswerOf IsUnlawful nothing I.remaining I.remaining inputs.old (I.remaining journal.old) f
+        ⊎ IsMisnumberedOf beside.now I.remaining I.remaining inputs.old (I.remaining journal.old) f) }
     ensures large { IfErr result (λ f. f ≡ DeskFault.TooLarge
-        → IsFirstTooLargeOf S.remaining L.remaining inputs.old (J.remaining journal.old)) }
+        → IsFirstTooLargeOf I.remaining I.remaining inputs.old (I.remaining journal.old)) }
     ensures device { IfErr result (λ f. f ≡ DeskFault.Device →
-        HasFirstFailed S.remaining L.remaining S.failure_count L.failure_count J.failure_count inputs.old inputs.new journal.old journal.new) }
+        HasFirstFailed I.remaining I.remaining I.failure_count I.failure_count I.failure_count inputs.old inputs.new journal.old journal.new) }
 {
     let Based { loaded, basis } = match load_based(alloc, inputs, true) {
         Ok(based) => based,

@@ -1,7 +1,7 @@
 //! The text of a season file that is begun.
 ghost use Rattle.std.specs.Prelude.{◌≡◌, ◌≤◌, ◌++◌, ◌∷◌, [], IfOk, OnOk};
 ghost use Rattle.airline_base.specs.Days.{two_digits};
-ghost use Rattle.seat_reports.specs.SeasonFile.{IsSeasonFile, escaped, letter, hex_digit, quoted};
+ghost use Rattle.seat_reports.specs.SeasonFile.{IsSeasonFile, escaped, letter, hex_digit, quoted, names_text, first_text, days_text};
 
 use crate::span::{days_of, first_of};
 use seat_desk::{put, put_number};
@@ -19,21 +19,44 @@ pub(crate) fn season_text(
 {
     let (year, month, day) = first_of(schedule).parts();
     let mut text = Vec::new(alloc);
-    put(&mut text, b"set = ")?;
-    put_quoted(&mut text, set.as_bytes())?;
-    put(&mut text, b"\nlimits = ")?;
-    put_quoted(&mut text, limits.as_bytes())?;
-    put(&mut text, b"\nfirst = ")?;
-    put_two(&mut text, (year / 100) as u8)?;
-    put_two(&mut text, (year % 100) as u8)?;
-    put(&mut text, b"-")?;
-    put_two(&mut text, month)?;
-    put(&mut text, b"-")?;
-    put_two(&mut text, day)?;
-    put(&mut text, b"\ndays = ")?;
-    put_number(&mut text, u64::from(days_of(schedule)))?;
-    put(&mut text, b"\n")?;
+    put_names(&mut text, set.as_bytes(), limits.as_bytes())?;
+    put_date(&mut text, year, month, day)?;
+    put_days(&mut text, days_of(schedule))?;
     Ok(text)
+}
+
+/// Adds the lines of the set and the limits, the last one without its end.
+fn put_names(text: &mut Vec<u8>, set: &[u8], limits: &[u8]) -> Result<(), AllocError>
+    ensures { OnOk result (text.new.items ≡ text.old.items ++ names_text set.now limits.now) }
+{
+    put(text, b"set = ")?;
+    put_quoted(text, set)?;
+    put(text, b"\nlimits = ")?;
+    put_quoted(text, limits)
+}
+
+/// Adds the line of the first day, without its end.
+fn put_date(text: &mut Vec<u8>, year: u16, month: u8, day: u8) -> Result<(), AllocError>
+    requires { (year ≤ 9999) × (month ≤ 99) × (day ≤ 99) }
+    ensures { OnOk result (text.new.items ≡ text.old.items ++ first_text year month day) }
+{
+    put(text, b"\nfirst = ")?;
+    put_two(text, (year / 100) as u8)?;
+    put_two(text, (year % 100) as u8)?;
+    put(text, b"-")?;
+    put_two(text, month)?;
+    put(text, b"-")?;
+    put_two(text, day)?;
+    Ok(())
+}
+
+/// Adds the line of the count of days.
+fn put_days(text: &mut Vec<u8>, days: u32) -> Result<(), AllocError>
+    ensures { OnOk result (text.new.items ≡ text.old.items ++ days_text days) }
+{
+    put(text, b"\ndays = ")?;
+    put_number(text, u64::from(days))?;
+    put(text, b"\n")
 }
 
 /// Adds a number below 100 in two digits.

@@ -9,11 +9,12 @@ ghost use Rattle.seat_restoring.specs.Comparing.{Differs, HasOneEntry, IsFaultAh
 ghost use Rattle.seat_restoring.specs.Found.{KeepsSealed, LosesSealed, has_sealed, is_no_longer};
 
 use crate::sealing::text_of;
+use booked_texts::imprint_beside;
 use seat_desk::DeskFault;
 use seat_recovery::Recovered;
 use seat_seal::{
     Basis, Beside, Imprint, JournalState, Seal, SealEntry, SealFault, Sealed, SealedJournal,
-    begins_sealed, era_known, fault_beside, imprint_beside, imprint_of, known_of, read_seal,
+    begins_sealed, era_known, fault_beside, imprint_of, known_of, read_seal,
 };
 
 /// Refuses a journal where what stands beside it is no seal, or one of another set, other limits or other days; and behind these, one whose bookings were

@@ -52,22 +52,15 @@ pub struct Asked {
 /// is compared with the set, the limits and that journal ahead of its own faults. Behind all inputs the run is refused where its seal says that the bookings
 /// were carried to another journal (`SealFault::Carried`), and behind that scripts or changes are of
 /// which one begins with what a run booked that its seal knows, unless they are to be booked `again`.
-pub fn read_asked<
-    R: Threads + Sync,
-    S: NotedRead,
-    L: NotedRead,
-    A: NotedRead,
-    C: NotedRead,
-    D: NotedRead,
->(
+pub fn read_asked<R: Threads + Sync, I: NotedRead>(
     rt: &R,
     alloc: Global,
-    inputs: &mut Inputs<S, L>,
-    after: &mut A,
+    inputs: &mut Inputs<I, I>,
+    after: &mut I,
     beside: &Beside<'_>,
     again: bool,
-    scripts: &mut [C],
-    changes: &mut D,
+    scripts: &mut [I],
+    changes: &mut I,
     today: Day,
 ) -> Result<Asked, DeskFault>
     requires first { IsOfCentury inputs.old.first }
@@ -75,29 +68,29 @@ pub fn read_asked<
     requires today { IsCenturyDay today }
     requires scripts { length scripts.old ≤ 8 }
     ensures ok { IfOk result (λ a.
-        IsAskedOf S.remaining L.remaining inputs.old today (A.remaining after.old) (map C.remaining scripts.old) (D.remaining changes.old) a.flights a.past.grid a.past.journal a.scripts a.changes.items) }
-    ensures sealed { OnOk result (AgreesOf beside.now S.remaining L.remaining inputs.old (A.remaining after.old)) }
+        IsAskedOf I.remaining I.remaining inputs.old today (I.remaining after.old) (map I.remaining scripts.old) (I.remaining changes.old) a.flights a.past.grid a.past.journal a.scripts a.changes.items) }
+    ensures sealed { OnOk result (AgreesOf beside.now I.remaining I.remaining inputs.old (I.remaining after.old)) }
     ensures once { OnOk result
-        (IsJudgedPastOf None again beside.now (A.remaining after.old) (map C.remaining scripts.old) (D.remaining changes.old)) }
-    ensures basis { IfOk result (λ a. IsBasisOf S.remaining L.remaining inputs.old a.basis) }
+        (IsJudgedPastOf None again beside.now (I.remaining after.old) (map I.remaining scripts.old) (I.remaining changes.old)) }
+    ensures basis { IfOk result (λ a. IsBasisOf I.remaining I.remaining inputs.old a.basis) }
     ensures grid { IfOk result (λ a. IsGridOf a.flights a.past.grid) }
     ensures legal { IfOk result (λ a. IsLegal a.past.grid a.past.journal) }
     ensures most { IfOk result (λ a. a.past.cap ≡ most_lines) }
     ensures count { IfOk result (λ a. length a.scripts ≡ length scripts.old) }
     ensures right { IfOk result (λ a. AllByRecursion AreRight a.scripts) }
     ensures legs { IfOk result (λ a. AllByRecursion (IsOnLeg a.flights) a.changes.items) }
-    ensures imprints { IfOk result (λ a. AreImprints (map C.remaining scripts.old) a.imprints) }
-    ensures changed { IfOk result (λ a. IsImprintOf (D.remaining changes.old) a.changes_imprint) }
+    ensures imprints { IfOk result (λ a. AreImprints (map I.remaining scripts.old) a.imprints) }
+    ensures changed { IfOk result (λ a. IsImprintOf (I.remaining changes.old) a.changes_imprint) }
     ensures behind { IfOk result (λ a. a.behind ≡ length a.past.journal) }
-    ensures earlier { IfOk result (λ a. IfSome (A.remaining after.old) (λ bytes. IsCarried beside.now bytes a.earlier)) }
+    ensures earlier { IfOk result (λ a. IfSome (I.remaining after.old) (λ bytes. IsCarried beside.now bytes a.earlier)) }
     ensures fault { IfErr result (λ f. IsOfInput f →
-        IsRefusedSealedRunOf beside.now again S.remaining L.remaining inputs.old today (A.remaining after.old) (map C.remaining scripts.old) (D.remaining changes.old) f) }
+        IsRefusedSealedRunOf beside.now again I.remaining I.remaining inputs.old today (I.remaining after.old) (map I.remaining scripts.old) (I.remaining changes.old) f) }
     ensures large { IfErr result (λ f. f ≡ DeskFault.TooLarge →
-        IsTooLargeSealedRunOf beside.now S.remaining L.remaining inputs.old today (A.remaining after.old) (map C.remaining scripts.old) (D.remaining changes.old)) }
+        IsTooLargeSealedRunOf beside.now I.remaining I.remaining inputs.old today (I.remaining after.old) (map I.remaining scripts.old) (I.remaining changes.old)) }
     ensures device { IfErr result (λ f. f ≡ DeskFault.Device →
-        FailsSealedRun beside.now S.remaining L.remaining inputs.old today (A.remaining after.old) (map C.remaining scripts.old)
-        (HasFirstLoadFailed S.remaining S.failure_count L.failure_count inputs.old inputs.new) (HasFailed A.failure_count after.old after.new)
-        (HasFailedAmong today (map C.remaining scripts.old) C.failure_count scripts.old scripts.new) (HasFailed D.failure_count changes.old changes.new)) }
+        FailsSealedRun beside.now I.remaining I.remaining inputs.old today (I.remaining after.old) (map I.remaining scripts.old)
+        (HasFirstLoadFailed I.remaining I.failure_count I.failure_count inputs.old inputs.new) (HasFailed I.failure_count after.old after.new)
+        (HasFailedAmong today (map I.remaining scripts.old) I.failure_count scripts.old scripts.new) (HasFailed I.failure_count changes.old changes.new)) }
 {
     match asked_once(
         rt, alloc, inputs, after, beside, again, scripts, changes, today,
@@ -108,33 +101,26 @@ pub fn read_asked<
 }
 
 /// Reads what a run starts from, and then the scripts and the changes.
-fn asked_once<
-    R: Threads + Sync,
-    S: NotedRead,
-    L: NotedRead,
-    A: NotedRead,
-    C: NotedRead,
-    D: NotedRead,
->(
+fn asked_once<R: Threads + Sync, I: NotedRead>(
     rt: &R,
     alloc: Global,
-    inputs: &mut Inputs<S, L>,
-    after: &mut A,
+    inputs: &mut Inputs<I, I>,
+    after: &mut I,
     beside: &Beside<'_>,
     again: bool,
-    scripts: &mut [C],
-    changes: &mut D,
+    scripts: &mut [I],
+    changes: &mut I,
     today: Day,
 ) -> Result<Asked, DeskFault>
     requires first { IsOfCentury inputs.old.first }
     requires days { (1 ≤ inputs.old.days) × (inputs.old.days ≤ 366) }
     requires today { IsCenturyDay today }
     requires scripts { length scripts.old ≤ 8 }
-    ensures ok { IfOk result (IsReadAsked beside.now again S.remaining L.remaining inputs.old today (A.remaining after.old) (map C.remaining scripts.old) (D.remaining changes.old)) }
+    ensures ok { IfOk result (IsReadAsked beside.now again I.remaining I.remaining inputs.old today (I.remaining after.old) (map I.remaining scripts.old) (I.remaining changes.old)) }
     ensures count { IfOk result (λ a. length a.scripts ≡ length scripts.old) }
-    ensures none { IfErr result (IsNotAsked beside.now again S.remaining L.remaining inputs.old today (A.remaining after.old) (map C.remaining scripts.old) (D.remaining changes.old)
-        (HasFirstLoadFailed S.remaining S.failure_count L.failure_count inputs.old inputs.new) (HasFailed A.failure_count after.old after.new)
-        (HasFailedAmong today (map C.remaining scripts.old) C.failure_count scripts.old scripts.new) (HasFailed D.failure_count changes.old changes.new)) }
+    ensures none { IfErr result (IsNotAsked beside.now again I.remaining I.remaining inputs.old today (I.remaining after.old) (map I.remaining scripts.old) (I.remaining changes.old)
+        (HasFirstLoadFailed I.remaining I.failure_count I.failure_count inputs.old inputs.new) (HasFailed I.failure_count after.old after.new)
+        (HasFailedAmong today (map I.remaining scripts.old) I.failure_count scripts.old scripts.new) (HasFailed I.failure_count changes.old changes.new)) }
 {
     let start = match started(rt, alloc, inputs, after, beside) {
         Ok(start) => start,
@@ -147,20 +133,20 @@ fn asked_once<
 }
 
 /// What scripts and changes ask of a run that is started, where the seal has nothing against it.
-fn asked_from<C: NotedRead, D: NotedRead>(
+fn asked_from<I: NotedRead>(
     alloc: Global,
     start: Start,
     again: bool,
-    scripts: &mut [C],
-    changes: &mut D,
+    scripts: &mut [I],
+    changes: &mut I,
     today: Day,
 ) -> Result<Asked, DeskFault>
     requires today { IsCenturyDay today }
     requires scripts { length scripts.old ≤ 8 }
-    ensures ok { IfOk result (IsAskedFrom start again today (map C.remaining scripts.old) (D.remaining changes.old)) }
+    ensures ok { IfOk result (IsAskedFrom start again today (map I.remaining scripts.old) (I.remaining changes.old)) }
     ensures count { IfOk result (λ a. length a.scripts ≡ length scripts.old) }
-    ensures none { IfErr result (IsNotAskedFrom start again today (map C.remaining scripts.old) (D.remaining changes.old)
-        (HasFailedAmong today (map C.remaining scripts.old) C.failure_count scripts.old scripts.new) (HasFailed D.failure_count changes.old changes.new)) }
+    ensures none { IfErr result (IsNotAskedFrom start again today (map I.remaining scripts.old) (I.remaining changes.old)
+        (HasFailedAmong today (map I.remaining scripts.old) I.failure_count scripts.old scripts.new) (HasFailed I.failure_count changes.old changes.new)) }
 {
     let read = match texts_of(alloc, &start, scripts, changes, today) {
         Ok(read) => read,
@@ -192,19 +178,19 @@ pub(crate) struct Texts {
 }
 
 /// Reads the scripts, and then the changes.
-fn texts_of<C: NotedRead, D: NotedRead>(
+fn texts_of<I: NotedRead>(
     alloc: Global,
     start: &Start,
-    scripts: &mut [C],
-    changes: &mut D,
+    scripts: &mut [I],
+    changes: &mut I,
     today: Day,
 ) -> Result<Texts, DeskFault>
     requires today { IsCenturyDay today }
     requires scripts { length scripts.old ≤ 8 }
-    ensures ok { IfOk result (AreTexts start.now today (map C.remaining scripts.old) (D.remaining changes.old)) }
+    ensures ok { IfOk result (AreTexts start.now today (map I.remaining scripts.old) (I.remaining changes.old)) }
     ensures count { IfOk result (λ read. length read.scripts.scripts ≡ length scripts.old) }
-    ensures none { IfErr result (AreNoTexts start.now today (map C.remaining scripts.old) (D.remaining changes.old)
-        (HasFailedAmong today (map C.remaining scripts.old) C.failure_count scripts.old scripts.new) (HasFailed D.failure_count changes.old changes.new)) }
+    ensures none { IfErr result (AreNoTexts start.now today (map I.remaining scripts.old) (I.remaining changes.old)
+        (HasFailedAmong today (map I.remaining scripts.old) I.failure_count scripts.old scripts.new) (HasFailed I.failure_count changes.old changes.new)) }
 {
     let read = match read_scripts(alloc, scripts, today, None, &start.known) {
         Ok(read) => read,

@@ -4,7 +4,8 @@ ghost use Rattle.seat_seal.specs.Booked.{is_booked};
 ghost use Rattle.seat_scripts.specs.TextImprints.{text_imprint};
 
 use airline_base::Items;
-use seat_seal::{Imprint, imprint_beside};
+use booked_texts::imprint_beside;
+use seat_seal::Imprint;
 
 /// The imprint of each script, in the order of the scripts; of one without a byte there is none.
 pub type TextImprints = Items<Option<Imprint>>;

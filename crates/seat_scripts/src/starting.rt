@@ -25,18 +25,18 @@ pub(crate) struct Start {
 }
 
 /// Reads a data set, limit rows and an older journal, which is replayed on all processors where what stands beside it has no fault.
-pub(crate) fn started<R: Threads + Sync, S: NotedRead, L: NotedRead, A: NotedRead>(
+pub(crate) fn started<R: Threads + Sync, I: NotedRead>(
     rt: &R,
     alloc: Global,
-    inputs: &mut Inputs<S, L>,
-    after: &mut A,
+    inputs: &mut Inputs<I, I>,
+    after: &mut I,
     beside: &Beside<'_>,
 ) -> Result<Start, DeskFault>
     requires first { IsOfCentury inputs.old.first }
     requires days { (1 ≤ inputs.old.days) × (inputs.old.days ≤ 366) }
-    ensures ok { IfOk result (IsStarted beside.now S.remaining L.remaining inputs.old (A.remaining after.old)) }
-    ensures none { IfErr result (IsNoStart beside.now S.remaining L.remaining inputs.old (A.remaining after.old)
-        (HasFirstLoadFailed S.remaining S.failure_count L.failure_count inputs.old inputs.new) (HasFailed A.failure_count after.old after.new)) }
+    ensures ok { IfOk result (IsStarted beside.now I.remaining I.remaining inputs.old (I.remaining after.old)) }
+    ensures none { IfErr result (IsNoStart beside.now I.remaining I.remaining inputs.old (I.remaining after.old)
+        (HasFirstLoadFailed I.remaining I.failure_count I.failure_count inputs.old inputs.new) (HasFailed I.failure_count after.old after.new)) }
 {
     let Based { loaded, basis } = match load_based(alloc, inputs, true) {
         Ok(based) => based,

@@ -1,8 +1,7 @@
 -- Imprints.
-use Rattle.std.specs.Prelude.{◌≡◌, ◌≤◌, ℕ, List, length, take}
+use Rattle.std.specs.Prelude.{◌≡◌, ℕ, List, length}
 use Rattle.sha2.specs.Sha256.{sha256}
 use Rattle.sha2.specs.Hashers.{Holds256}
-use Rattle.seat_seal.specs.declared.beginning.Beginning.{Beginning}
 use Rattle.seat_seal.specs.declared.imprint.Imprint.{Imprint}
 use Rattle.seat_seal.specs.declared.imprint.Tally.{Tally}
 
@@ -14,8 +13,3 @@ imprint_of bytes = record { digest = sha256 bytes; bytes = length bytes }
 pub record HasTaken (tally : Tally) (taken : List ℕ) : Type 0 where
   pub digest : Holds256 tally.hasher taken
   pub count : tally.bytes ≡ length taken
-
--- it has taken so many of the text's first bytes
-pub record IsAt (beginning : Beginning) (text : List ℕ) : Type 0 where
-  pub within : beginning.count ≤ length text
-  pub taken : HasTaken beginning.tally (take beginning.count text)

@@ -146,7 +146,8 @@ pub(crate) fn same_digest(a: &Digest, b: &Digest) -> bool
     a.bytes() == b.bytes()
 }
 
-pub(crate) fn same_imprint(a: &Imprint, b: &Imprint) -> bool
+/// Whether two imprints are the same: digest and count.
+pub fn same_imprint(a: &Imprint, b: &Imprint) -> bool
     ensures { result ≡ same_imprint a.now b.now }
 {
     same_digest(&a.digest, &b.digest) && a.bytes == b.bytes

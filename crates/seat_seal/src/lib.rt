@@ -2,7 +2,6 @@
 //! It knows digests, days and counts, and nothing of a journal's lines, of sessions or of files.
 #![tactic(auto)]
 
-mod beginning;
 mod beside;
 mod booked;
 mod closing;
@@ -22,11 +21,12 @@ mod scripts;
 mod seal;
 mod spelling;
 
-pub use beginning::imprint_beside;
 pub use beside::{Basis, Beside, fault_beside};
 pub use booked::{Booked, changes_booked, scripts_booked};
 pub use closing::{closed_entry, open_entry};
-pub use comparing::{Given, SealFault, begins_sealed, compared, entry_for, is_its_journal};
+pub use comparing::{
+    Given, SealFault, begins_sealed, compared, entry_for, is_its_journal, same_imprint,
+};
 pub use date::Date;
 pub use digest::{Digest, digest_of};
 pub use era::{Era, era_known};

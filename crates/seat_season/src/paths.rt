@@ -20,9 +20,15 @@ fn in_folder(alloc: Global, folder: Option<&str>, name: &str) -> Result<String, 
     let Some(folder) = folder else {
         return String::from_str(alloc, name);
     };
-    let mut path = String::from_str(alloc, folder)?;
-    path.push_str("/")?;
-    path.push_str(name)?;
+    let Ok(mut path) = String::from_str(alloc, folder) else {
+        return Err(AllocError);
+    };
+    let Ok(()) = path.push_str("/") else {
+        return Err(AllocError);
+    };
+    let Ok(()) = path.push_str(name) else {
+        return Err(AllocError);
+    };
     Ok(path)
 }
 
@@ -33,8 +39,12 @@ fn guarded(alloc: Global, path: String) -> Result<String, AllocError>
     if !begins_with(b'-', path.as_str()) {
         return Ok(path);
     }
-    let mut guarded = String::from_str(alloc, "./")?;
-    guarded.push_str(path.as_str())?;
+    let Ok(mut guarded) = String::from_str(alloc, "./") else {
+        return Err(AllocError);
+    };
+    let Ok(()) = guarded.push_str(path.as_str()) else {
+        return Err(AllocError);
+    };
     Ok(guarded)
 }
 

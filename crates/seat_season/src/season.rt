@@ -78,12 +78,30 @@ fn values_of(table: &Table) -> Result<Values<'_>, Key>
     ensures values { IfOk result (λ v. values_in (table_view table.now) ≡ Ok (values_said v)) }
     ensures fault { IfErr result (λ key. values_in (table_view table.now) ≡ Err (wrong key)) }
 {
-    let set = name_at(table, Key::Set)?;
-    let limits = name_at(table, Key::Limits)?;
-    let first = first_at(table)?;
-    let days = days_at(table)?;
-    let journal = name_at(table, Key::Journal)?;
-    let desks = desks_at(table)?;
+    let set = match name_at(table, Key::Set) {
+        Ok(set) => set,
+        Err(key) => return Err(key),
+    };
+    let limits = match name_at(table, Key::Limits) {
+        Ok(limits) => limits,
+        Err(key) => return Err(key),
+    };
+    let first = match first_at(table) {
+        Ok(first) => first,
+        Err(key) => return Err(key),
+    };
+    let days = match days_at(table) {
+        Ok(days) => days,
+        Err(key) => return Err(key),
+    };
+    let journal = match name_at(table, Key::Journal) {
+        Ok(journal) => journal,
+        Err(key) => return Err(key),
+    };
+    let desks = match desks_at(table) {
+        Ok(desks) => desks,
+        Err(key) => return Err(key),
+    };
     Ok(Values {
         set,
         limits,

@@ -150,9 +150,10 @@ fn put_added(
     ensures { OnOk result (words_texts words.new ≡ words_texts words.old ++ added_words (said season.now)
         (option_map (λ f. f.now) around.now.folder) around.now.has_lines line.now.command.now (texts line.now.behind.now)) }
 {
-    put_horizon(alloc, words, season, around.folder)?;
-    put_own_journal(alloc, words, line, season, around)?;
-    Ok(())
+    let Ok(()) = put_horizon(alloc, words, season, around.folder) else {
+        return Err(AllocError);
+    };
+    put_own_journal(alloc, words, line, season, around)
 }
 
 /// The journal of the season, where it has one.
@@ -170,7 +171,9 @@ fn put_own_journal(
     let Some(journal) = season.journal else {
         return Ok(());
     };
-    let journal = path_of(alloc, around.folder, journal)?;
+    let Ok(journal) = path_of(alloc, around.folder, journal) else {
+        return Err(AllocError);
+    };
     put_journal(alloc, words, line, journal.as_str(), around.has_lines)
 }
 
@@ -202,16 +205,24 @@ fn put_path(
     ensures { OnOk result (words_texts words.new ≡ words_texts words.old
         ++ option.now ∷ path_in (option_map (λ f. f.now) folder.entry) name.now ∷ []) }
 {
-    let path = path_of(alloc, folder, name)?;
-    put(alloc, words, option)?;
+    let Ok(path) = path_of(alloc, folder, name) else {
+        return Err(AllocError);
+    };
+    let Ok(()) = put(alloc, words, option) else {
+        return Err(AllocError);
+    };
     put(alloc, words, path.as_str())
 }
 
 fn put_first(alloc: Global, words: &mut Words, first: Date) -> Result<(), AllocError>
     ensures { OnOk result (words_texts words.new ≡ words_texts words.old ++ codes "--first" ∷ date_word first ∷ []) }
 {
-    let day = date_word(alloc, first)?;
-    put(alloc, words, "--first")?;
+    let Ok(day) = date_word(alloc, first) else {
+        return Err(AllocError);
+    };
+    let Ok(()) = put(alloc, words, "--first") else {
+        return Err(AllocError);
+    };
     put(alloc, words, day.as_str())
 }
 
@@ -219,7 +230,9 @@ fn put_days(alloc: Global, words: &mut Words, days: u16) -> Result<(), AllocErro
     ensures { OnOk result (words_texts words.new ≡ words_texts words.old ++ codes "--days" ∷ decimal days ∷ []) }
 {
     let mut number = Buffer::new();
-    put(alloc, words, "--days")?;
+    let Ok(()) = put(alloc, words, "--days") else {
+        return Err(AllocError);
+    };
     put(alloc, words, number.format(days))
 }
 
@@ -244,7 +257,9 @@ fn put_journal(
         if has_option("--journal", line.behind) {
             return Ok(());
         }
-        put(alloc, words, "--journal")?;
+        let Ok(()) = put(alloc, words, "--journal") else {
+            return Err(AllocError);
+        };
         return put(alloc, words, journal);
     }
     if has_place(line.behind) {
@@ -265,8 +280,12 @@ fn put_run(
     if has_option("--journal", behind) {
         return Ok(());
     }
-    put(alloc, words, "--journal")?;
-    put(alloc, words, journal)?;
+    let Ok(()) = put(alloc, words, "--journal") else {
+        return Err(AllocError);
+    };
+    let Ok(()) = put(alloc, words, journal) else {
+        return Err(AllocError);
+    };
     put_begun(alloc, words, behind, journal, has_lines)
 }
 
@@ -284,7 +303,9 @@ fn put_begun(
         return Ok(());
     }
     if has_lines {
-        put(alloc, words, "--after")?;
+        let Ok(()) = put(alloc, words, "--after") else {
+            return Err(AllocError);
+        };
         return put(alloc, words, journal);
     }
     if has_option("--no-clobber", behind) {
@@ -326,15 +347,31 @@ fn put_word(
     ensures { OnOk result (words_texts words.new ≡ words_texts words.old ++ word_of (items_view names.now) awaits word.now ∷ []) }
 {
     if let Some((session, file)) = named_file(names, awaits, word) {
-        let mut named = String::from_str(alloc, session)?;
-        named.push_str("=")?;
-        named.push_str(file)?;
+        let Ok(named) = joined(alloc, session, file) else {
+            return Err(AllocError);
+        };
         return put_own(words, named);
     }
     if let Some(session) = named_desk(names, awaits, word) {
         return put(alloc, words, session);
     }
     put(alloc, words, word)
+}
+
+/// A session's number, `=` and its file.
+fn joined(alloc: Global, session: &str, file: &str) -> Result<String, AllocError>
+    ensures { IfOk result (λ word. string_bytes word ≡ session.now ++ (codes "=" ++ file.now)) }
+{
+    let Ok(mut word) = String::from_str(alloc, session) else {
+        return Err(AllocError);
+    };
+    let Ok(()) = word.push_str("=") else {
+        return Err(AllocError);
+    };
+    let Ok(()) = word.push_str(file) else {
+        return Err(AllocError);
+    };
+    Ok(word)
 }
 
 /// The session and the file of a word that is a desk's name, `=` and a file, where a script or a desk may stand.
@@ -392,10 +429,18 @@ fn date_word(alloc: Global, date: Date) -> Result<String, AllocError>
     ensures { IfOk result (λ word. string_bytes word ≡ date_word date) }
 {
     let mut word = String::new(alloc);
-    put_two(&mut word, "", date.year / 100)?;
-    put_two(&mut word, "", date.year % 100)?;
-    put_two(&mut word, "-", u16::from(date.month))?;
-    put_two(&mut word, "-", u16::from(date.day))?;
+    let Ok(()) = put_two(&mut word, "", date.year / 100) else {
+        return Err(AllocError);
+    };
+    let Ok(()) = put_two(&mut word, "", date.year % 100) else {
+        return Err(AllocError);
+    };
+    let Ok(()) = put_two(&mut word, "-", u16::from(date.month)) else {
+        return Err(AllocError);
+    };
+    let Ok(()) = put_two(&mut word, "-", u16::from(date.day)) else {
+        return Err(AllocError);
+    };
     Ok(word)
 }
 
@@ -403,8 +448,12 @@ fn date_word(alloc: Global, date: Date) -> Result<String, AllocError>
 fn put_two(word: &mut String, ahead: &str, number: u16) -> Result<(), AllocError>
     ensures { OnOk result (string_bytes word.new ≡ string_bytes word.old ++ (ahead.now ++ two number)) }
 {
-    word.push_str(ahead)?;
-    word.push_str(digit(number / 10 % 10))?;
+    let Ok(()) = word.push_str(ahead) else {
+        return Err(AllocError);
+    };
+    let Ok(()) = word.push_str(digit(number / 10 % 10)) else {
+        return Err(AllocError);
+    };
     word.push_str(digit(number % 10))
 }
 

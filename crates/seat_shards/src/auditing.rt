@@ -19,26 +19,26 @@ use std::thread::Threads;
 /// They are accepted exactly where each is a legal history by itself and no two have a line of one flight. Each input is read and checked before
 /// the next is read, and nothing is written before all are right. Whatever the order in which their lines came, one journal of all of them
 /// is a legal history then, with these totals: [`merged_is_legal`](crate::laws::merged_is_legal), [`merged_totals`](crate::laws::merged_totals).
-pub fn desk_shards<R: Threads + Sync, S: NotedRead, L: NotedRead, J: NotedRead, W: NotedWrite>(
+pub fn desk_shards<R: Threads + Sync, I: NotedRead, W: NotedWrite>(
     rt: &R,
     alloc: Global,
-    inputs: &mut Inputs<S, L>,
-    journals: &mut [J],
+    inputs: &mut Inputs<I, I>,
+    journals: &mut [I],
     out: &mut W,
 ) -> Result<(), ShardFault>
     requires first { IsOfCentury inputs.old.first }
     requires days { (1 ≤ inputs.old.days) × (inputs.old.days ≤ 366) }
-    ensures ok { OnOk result (IsWritten (IsShardsAnswerOf S.remaining L.remaining inputs.old (map J.remaining journals.old))
+    ensures ok { OnOk result (IsWritten (IsShardsAnswerOf I.remaining I.remaining inputs.old (map I.remaining journals.old))
         (W.contents out.old) (W.contents out.new)) }
     ensures fault { IfErr result (λ f. IsOfShards f →
-        IsRefusedShardsOf S.remaining L.remaining inputs.old (map J.remaining journals.old) f) }
+        IsRefusedShardsOf I.remaining I.remaining inputs.old (map I.remaining journals.old) f) }
     ensures large { IfErr result (λ f. f ≡ ShardFault.Desk DeskFault.TooLarge
-        → IsFirstTooLargeLoadOf S.remaining L.remaining inputs.old) }
+        → IsFirstTooLargeLoadOf I.remaining I.remaining inputs.old) }
     ensures device { IfErr result (λ f. f ≡ ShardFault.Desk DeskFault.Device →
-        InputFailed (HasFirstFailed S.remaining L.remaining S.failure_count L.failure_count J.remaining J.failure_count inputs.old inputs.new journals.old journals.new)
+        InputFailed (HasFirstFailed I.remaining I.remaining I.failure_count I.failure_count I.remaining I.failure_count inputs.old inputs.new journals.old journals.new)
         out.old out.new
         ⊎ OutputFailed W.failure_count W.contents out.old out.new
-        (IsShardsAnswerOf S.remaining L.remaining inputs.old (map J.remaining journals.old))) }
+        (IsShardsAnswerOf I.remaining I.remaining inputs.old (map I.remaining journals.old))) }
     ensures untouched { IfErr result (λ f. f ≢ ShardFault.Desk DeskFault.Device → out.new ≡ out.old) }
 {
     let line = match audited(rt, alloc, inputs, journals) {
@@ -52,21 +52,21 @@ pub fn desk_shards<R: Threads + Sync, S: NotedRead, L: NotedRead, J: NotedRead, 
 }
 
 // The line of journals that are audited, each input read and checked before the next.
-fn audited<R: Threads + Sync, S: NotedRead, L: NotedRead, J: NotedRead>(
+fn audited<R: Threads + Sync, I: NotedRead>(
     rt: &R,
     alloc: Global,
-    inputs: &mut Inputs<S, L>,
-    journals: &mut [J],
+    inputs: &mut Inputs<I, I>,
+    journals: &mut [I],
 ) -> Result<Vec<u8>, ShardFault>
     requires first { IsOfCentury inputs.old.first }
     requires days { (1 ≤ inputs.old.days) × (inputs.old.days ≤ 366) }
-    ensures ok { IfOk result (λ line. IsShardsAnswerOf S.remaining L.remaining inputs.old (map J.remaining journals.old) line.items) }
+    ensures ok { IfOk result (λ line. IsShardsAnswerOf I.remaining I.remaining inputs.old (map I.remaining journals.old) line.items) }
     ensures fault { IfErr result (λ f. IsOfShards f →
-        IsRefusedShardsOf S.remaining L.remaining inputs.old (map J.remaining journals.old) f) }
+        IsRefusedShardsOf I.remaining I.remaining inputs.old (map I.remaining journals.old) f) }
     ensures large { IfErr result (λ f. f ≡ ShardFault.Desk DeskFault.TooLarge
-        → IsFirstTooLargeLoadOf S.remaining L.remaining inputs.old) }
+        → IsFirstTooLargeLoadOf I.remaining I.remaining inputs.old) }
     ensures device { IfErr result (λ f. f ≡ ShardFault.Desk DeskFault.Device →
-        HasFirstFailed S.remaining L.remaining S.failure_count L.failure_count J.remaining J.failure_count inputs.old inputs.new journals.old journals.new) }
+        HasFirstFailed I.remaining I.remaining I.failure_count I.failure_count I.remaining I.failure_count inputs.old inputs.new journals.old journals.new) }
 {
     let totals = match totalled(rt, alloc, inputs, journals) {
         Ok(totals) => totals,
@@ -80,21 +80,21 @@ fn audited<R: Threads + Sync, S: NotedRead, L: NotedRead, J: NotedRead>(
 
 // What the journals come to, each input read and checked before the next.
 #[tactic(auto, using(crate::proofs::Grounds::refused_over_ground, crate::proofs::Grounds::failed_over_ground, crate::proofs::Grounds::as_many))]
-fn totalled<R: Threads + Sync, S: NotedRead, L: NotedRead, J: NotedRead>(
+fn totalled<R: Threads + Sync, I: NotedRead>(
     rt: &R,
     alloc: Global,
-    inputs: &mut Inputs<S, L>,
-    journals: &mut [J],
+    inputs: &mut Inputs<I, I>,
+    journals: &mut [I],
 ) -> Result<Totals, ShardFault>
     requires first { IsOfCentury inputs.old.first }
     requires days { (1 ≤ inputs.old.days) × (inputs.old.days ≤ 366) }
-    ensures ok { IfOk result (IsTotalledOf S.remaining L.remaining inputs.old (map J.remaining journals.old)) }
+    ensures ok { IfOk result (IsTotalledOf I.remaining I.remaining inputs.old (map I.remaining journals.old)) }
     ensures fault { IfErr result (λ f. IsOfShards f →
-        IsRefusedShardsOf S.remaining L.remaining inputs.old (map J.remaining journals.old) f) }
+        IsRefusedShardsOf I.remaining I.remaining inputs.old (map I.remaining journals.old) f) }
     ensures large { IfErr result (λ f. f ≡ ShardFault.Desk DeskFault.TooLarge
-        → IsFirstTooLargeLoadOf S.remaining L.remaining inputs.old) }
+        → IsFirstTooLargeLoadOf I.remaining I.remaining inputs.old) }
     ensures device { IfErr result (λ f. f ≡ ShardFault.Desk DeskFault.Device →
-        HasFirstFailed S.remaining L.remaining S.failure_count L.failure_count J.remaining J.failure_count inputs.old inputs.new journals.old journals.new) }
+        HasFirstFailed I.remaining I.remaining I.failure_count I.failure_count I.remaining I.failure_count inputs.old inputs.new journals.old journals.new) }
 {
     let loaded = match load(alloc, inputs) {
         Ok(loaded) => loaded,

@@ -24,35 +24,28 @@ use std::thread::Threads;
 /// of them, and writes the answer. Each must be a legal history by itself, no two may have a line of one flight, and together they have at
 /// most 999,999 lines: where there are more, the fault names the first line without room (C1) behind its journal's place. Each input is
 /// read and checked before the next is read, and nothing is written before all are right.
-pub fn answer_shards<
-    R: Threads + Sync,
-    Q: Question,
-    S: NotedRead,
-    L: NotedRead,
-    J: NotedRead,
-    W: NotedWrite,
->(
+pub fn answer_shards<R: Threads + Sync, Q: Question, I: NotedRead, W: NotedWrite>(
     rt: &R,
     alloc: Global,
     question: &Q,
-    inputs: &mut Inputs<S, L>,
-    journals: &mut [J],
+    inputs: &mut Inputs<I, I>,
+    journals: &mut [I],
     out: &mut W,
 ) -> Result<(), ShardFault>
     requires first { IsOfCentury inputs.old.first }
     requires days { (1 ≤ inputs.old.days) × (inputs.old.days ≤ 366) }
     ensures ok { OnOk result (IsWritten
-        (IsTogetherOf (Q.answers question.now) S.remaining L.remaining inputs.old (map J.remaining journals.old))
+        (IsTogetherOf (Q.answers question.now) I.remaining I.remaining inputs.old (map I.remaining journals.old))
         (W.contents out.old) (W.contents out.new)) }
     ensures fault { IfErr result (λ f. IsOfShards f →
-        IsRefusedOf (Q.refuses question.now) S.remaining L.remaining inputs.old (map J.remaining journals.old) f) }
+        IsRefusedOf (Q.refuses question.now) I.remaining I.remaining inputs.old (map I.remaining journals.old) f) }
     ensures large { IfErr result (λ f. f ≡ ShardFault.Desk DeskFault.TooLarge
-        → IsTooLargeOf S.remaining L.remaining inputs.old (map J.remaining journals.old)) }
+        → IsTooLargeOf I.remaining I.remaining inputs.old (map I.remaining journals.old)) }
     ensures device { IfErr result (λ f. f ≡ ShardFault.Desk DeskFault.Device →
-        InputFailed (HasFirstFailed S.remaining L.remaining S.failure_count L.failure_count J.remaining J.failure_count inputs.old inputs.new journals.old journals.new)
+        InputFailed (HasFirstFailed I.remaining I.remaining I.failure_count I.failure_count I.remaining I.failure_count inputs.old inputs.new journals.old journals.new)
         out.old out.new
         ⊎ OutputFailed W.failure_count W.contents out.old out.new
-        (IsTogetherOf (Q.answers question.now) S.remaining L.remaining inputs.old (map J.remaining journals.old))) }
+        (IsTogetherOf (Q.answers question.now) I.remaining I.remaining inputs.old (map I.remaining journals.old))) }
     ensures untouched { IfErr result (λ f. f ≢ ShardFault.Desk DeskFault.Device → out.new ≡ out.old) }
 {
     let text = match answered(rt, alloc, question, inputs, journals) {
@@ -67,23 +60,23 @@ pub fn answer_shards<
 
 // The text that answers a question about the inputs.
 #[tactic(auto, using(crate::proofs::Grounds::answered_over_ground, crate::proofs::Grounds::refused_over_ground, crate::proofs::Grounds::long_over_ground, crate::proofs::Grounds::refused_ground, crate::proofs::Grounds::large_ground, seat_shards::proofs::Grounds::failed_over_ground))]
-fn answered<R: Threads + Sync, Q: Question, S: NotedRead, L: NotedRead, J: NotedRead>(
+fn answered<R: Threads + Sync, Q: Question, I: NotedRead>(
     rt: &R,
     alloc: Global,
     question: &Q,
-    inputs: &mut Inputs<S, L>,
-    journals: &mut [J],
+    inputs: &mut Inputs<I, I>,
+    journals: &mut [I],
 ) -> Result<Vec<u8>, ShardFault>
     requires first { IsOfCentury inputs.old.first }
     requires days { (1 ≤ inputs.old.days) × (inputs.old.days ≤ 366) }
     ensures ok { IfOk result (λ text.
-        IsTogetherOf (Q.answers question.now) S.remaining L.remaining inputs.old (map J.remaining journals.old) text.items) }
+        IsTogetherOf (Q.answers question.now) I.remaining I.remaining inputs.old (map I.remaining journals.old) text.items) }
     ensures fault { IfErr result (λ f. IsOfShards f →
-        IsRefusedOf (Q.refuses question.now) S.remaining L.remaining inputs.old (map J.remaining journals.old) f) }
+        IsRefusedOf (Q.refuses question.now) I.remaining I.remaining inputs.old (map I.remaining journals.old) f) }
     ensures large { IfErr result (λ f. f ≡ ShardFault.Desk DeskFault.TooLarge
-        → IsTooLargeOf S.remaining L.remaining inputs.old (map J.remaining journals.old)) }
+        → IsTooLargeOf I.remaining I.remaining inputs.old (map I.remaining journals.old)) }
     ensures device { IfErr result (λ f. f ≡ ShardFault.Desk DeskFault.Device →
-        HasFirstFailed S.remaining L.remaining S.failure_count L.failure_count J.remaining J.failure_count inputs.old inputs.new journals.old journals.new) }
+        HasFirstFailed I.remaining I.remaining I.failure_count I.failure_count I.remaining I.failure_count inputs.old inputs.new journals.old journals.new) }
 {
     let loaded = match load(alloc, inputs) {
         Ok(loaded) => loaded,

@@ -1,6 +1,6 @@
 -- What a clause reads of a `Fuse`.
 use Rattle.std.specs.Prelude.{ℕ, Bool}
-use Rattle.seat_disk.specs.declared.fuse.Fuse.{Fuse}
+use Rattle.memory_disk.specs.declared.fuse.Fuse.{Fuse}
 
 -- `fuse.into_inner()`
 abbrev pub fused : {D : Type 0} → Fuse D → D

@@ -1,11 +1,10 @@
 //! Whether a text begins with what was booked, and its imprint, by one look at its bytes.
-//! It knows imprints, and nothing of who booked what.
 ghost use Rattle.std.specs.Prelude.{◌≡◌, ◌≤◌, ℕ, List, length};
 ghost use Rattle.seat_seal.specs.Booked.{begins_with, is_booked};
-ghost use Rattle.seat_seal.specs.Imprints.{imprint_of, IsAt};
+ghost use Rattle.seat_seal.specs.Imprints.{imprint_of};
+ghost use Rattle.booked_texts.specs.Looks.{IsAt};
 
-use crate::comparing::same_imprint;
-use crate::imprint::{Imprint, Tally};
+use seat_seal::{Imprint, Tally, same_imprint};
 
 /// The imprint of a text, and whether the text begins with one of these that were booked. Where they stand by their counts of bytes,
 /// the least first, each byte of the text is digested once.

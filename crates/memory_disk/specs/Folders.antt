@@ -1,7 +1,7 @@
 -- What a clause reads of a `Folder`.
 use Rattle.std.specs.Prelude.{◌≡◌, ◌⊎◌, ℕ, Bool, ◌&&◌, not, if◌then◌else◌, List, length, map, take, IsTrue}
-use Rattle.seat_disk.specs.declared.replaced.Content.{Content}
-use Rattle.seat_disk.specs.declared.replaced.Folder.{Folder}
+use Rattle.memory_disk.specs.declared.folder.Content.{Content}
+use Rattle.memory_disk.specs.declared.folder.Folder.{Folder}
 use Rattle.seat_disk.specs.declared.synced.Synced.{Synced}
 use Rattle.seat_disk.specs.Leaving.{IsLeft}
 
