@@ -1,5 +1,5 @@
 -- The command line of seatdesk, as clap reads it: its commands, each with the values that it asks for.
-use Rattle.std.specs.Prelude.{◌≡◌, ℕ, List, Some, [], ◌∷◌, codes, true, false}
+use Rattle.std.specs.Prelude.{◌≡◌, ℕ, Bool, List, Some, [], ◌∷◌, codes, true, false}
 use Rattle.clap.specs.Words.{App, Rule, Text, app_of, new_app, new_rule, rule_of, with_rule, with_subcommand}
 use Rattle.clap.specs.declared.builder.action.ArgAction.TheVariants.{Append, SetTrue}
 use Rattle.clap.specs.declared.builder.arg.Arg.{Arg}
@@ -335,9 +335,14 @@ unfoldable pub seatdesk_app : App
 seatdesk_app = with_command (with_command (with_command (with_command (with_command (with_command (with_command (with_command
     asking_app audit_app) seal_app) recover_app) replies_app) told_app) why_app) explain_app) season_app
 
+-- a command of this name before its own arguments: with those of a horizon, or without them
+abbrev pub before_its_own : Bool → Text → App
+before_its_own true name = horizon_app name
+before_its_own false name = new_app name
+
 -- what is read of a command that is so described
 abbrev pub app_as : Described → App
-app_as described = with_arguments (with_arguments (new_app described.name.now) described.horizon.now) described.arguments.now
+app_as described = with_arguments (before_its_own described.over_horizon described.name.now) described.arguments.now
 
 -- what each command is read as
 abbrev pub app_named : Named → App

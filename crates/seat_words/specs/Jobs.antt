@@ -331,6 +331,20 @@ values_of named.Why = horizon_values ++ codes "line" ∷ codes "journal" ∷ []
 values_of named.Explain = codes "code" ∷ []
 values_of named.Season = codes "set" ∷ codes "limits" ∷ []
 
+-- by which place or option each command may have several values, if it may
+abbrev pub several_of : Named → Option Text
+several_of named.Loads = Some (codes "others")
+several_of named.Run = Some (codes "scripts")
+several_of named.Serve = Some (codes "desk")
+several_of named.Route = Some (codes "scripts")
+several_of named.Bookings = Some (codes "locator")
+several_of named.Waiting = Some (codes "others")
+several_of named.Carry = Some (codes "others")
+several_of named.Audit = Some (codes "scripts")
+several_of named.Replies = Some (codes "scripts")
+several_of named.Explain = Some (codes "numbers")
+several_of command = None
+
 -- the name of each command
 abbrev pub word_of : Named → Text
 word_of named.Ladder = codes "ladder"

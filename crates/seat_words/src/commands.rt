@@ -15,13 +15,21 @@ mod schedules;
 use super::naming::{NAMES, Name, Named};
 use arguments::{Described, described_command, flag, lettered_flag, with_argument};
 use clap::Command;
-use controllers::CHANGES;
-use journals::{AUDIT, REPLIES, TOLD, WHY};
-use partners::{AVS, RECONCILE};
-use questions::{BOOKINGS, HISTORY, LOADS, PICKUP, ROOMS, WAITING};
-use routes::ROUTE;
-use sales::{CARRY, RECOVER, RUN, SEAL, SERVE};
-use schedules::{CHECK, COMPARE, COVER, EXPLAIN, FLIGHTS, LADDER, SEASON};
+use controllers::{CHANGES, CHANGES_MORE};
+use journals::{AUDIT, AUDIT_MORE, REPLIES, REPLIES_MORE, TOLD, TOLD_MORE, WHY, WHY_MORE};
+use partners::{AVS, AVS_MORE, RECONCILE, RECONCILE_MORE};
+use questions::{
+    BOOKINGS, BOOKINGS_MORE, HISTORY, HISTORY_MORE, LOADS, LOADS_MORE, PICKUP, PICKUP_MORE, ROOMS,
+    ROOMS_MORE, WAITING, WAITING_MORE,
+};
+use routes::{ROUTE, ROUTE_MORE};
+use sales::{
+    CARRY, CARRY_MORE, RECOVER, RECOVER_MORE, RUN, RUN_MORE, SEAL, SEAL_MORE, SERVE, SERVE_MORE,
+};
+use schedules::{
+    CHECK, CHECK_MORE, COMPARE, COMPARE_MORE, COVER, COVER_MORE, EXPLAIN, EXPLAIN_MORE, FLIGHTS,
+    FLIGHTS_MORE, LADDER, LADDER_MORE, SEASON, SEASON_MORE,
+};
 use std::alloc::{AllocError, Global};
 
 const VERSION: &str = "1.0.0";
@@ -54,8 +62,8 @@ fn with_commands<'a>(
     let [name, more @ ..] = names else {
         return program;
     };
-    let described = described_by(name.named);
-    let program = with_command(alloc, program, described_command(alloc, described));
+    let command = described_command(alloc, described_by(name.named), more_of(name.named));
+    let program = with_command(alloc, program, command);
     with_commands(alloc, program, more)
 }
 
@@ -92,6 +100,38 @@ fn described_by(command: Named) -> &'static Described
     }
 }
 
+// What the command's help says behind its arguments.
+fn more_of(command: Named) -> &'static str {
+    match command {
+        Named::Ladder => LADDER_MORE,
+        Named::Check => CHECK_MORE,
+        Named::Flights => FLIGHTS_MORE,
+        Named::Cover => COVER_MORE,
+        Named::Rooms => ROOMS_MORE,
+        Named::Loads => LOADS_MORE,
+        Named::Run => RUN_MORE,
+        Named::Serve => SERVE_MORE,
+        Named::Route => ROUTE_MORE,
+        Named::Bookings => BOOKINGS_MORE,
+        Named::Waiting => WAITING_MORE,
+        Named::Pickup => PICKUP_MORE,
+        Named::History => HISTORY_MORE,
+        Named::Avs => AVS_MORE,
+        Named::Reconcile => RECONCILE_MORE,
+        Named::Compare => COMPARE_MORE,
+        Named::Carry => CARRY_MORE,
+        Named::Changes => CHANGES_MORE,
+        Named::Audit => AUDIT_MORE,
+        Named::Seal => SEAL_MORE,
+        Named::Recover => RECOVER_MORE,
+        Named::Replies => REPLIES_MORE,
+        Named::Told => TOLD_MORE,
+        Named::Why => WHY_MORE,
+        Named::Explain => EXPLAIN_MORE,
+        Named::Season => SEASON_MORE,
+    }
+}
+
 // The program with one more command, which has the switches too, if both could be made.
 fn with_command<'a>(
     alloc: Global,
@@ -102,9 +142,11 @@ fn with_command<'a>(
         → IfOk result (IsBuiltAs (with_command a sub)) }
 {
     let Ok(program) = program else {
+        drop(command);
         return Err(AllocError);
     };
     let Ok(command) = with_switches(alloc, command) else {
+        drop(program);
         return Err(AllocError);
     };
     program.subcommand(command)

@@ -1,10 +1,10 @@
 //! What the command line asks for.
-ghost use Rattle.std.specs.Prelude.{◌≡◌, [], IfOk, IfErr, IsSomeAnd, Some, codes, is_some, option_map, true, unwrap_or};
+ghost use Rattle.std.specs.Prelude.{◌≡◌, [], IfOk, IfErr, IsSomeAnd, None, Some, codes, is_some, option_map, true, unwrap_or};
 ghost use Rattle.clap.specs.Walk.{texts};
 ghost use Rattle.clap.specs.Words.{FailsBy, all_of, fault_of, first_of, found_of, kind_of, matches_of, rows_of, subcommand_of, subcommand_rows_of, takes};
 ghost use Rattle.clap.specs.declared.error.kind.ErrorKind.TheVariants.{ArgumentConflict, InvalidValue, OutOfMemory};
 ghost use Rattle.seat_words.specs.CommandLine.{seatdesk_app};
-ghost use Rattle.seat_words.specs.Jobs.{Asks, IsOver, IsShaped, has_values, horizon_values, is_answerable, is_complete, is_flagged, is_quiet, is_switched, is_verbose, values_of, word_of};
+ghost use Rattle.seat_words.specs.Jobs.{Asks, HasAny, IsOver, IsShaped, has_values, horizon_values, is_answerable, is_complete, is_flagged, is_quiet, is_switched, is_verbose, several_of, values_of, word_of};
 ghost use Rattle.seat_words.specs.declared.naming.Named.TheVariants as named;
 
 use super::commands::seatdesk_command;
@@ -130,7 +130,11 @@ pub fn read_words<'a>(alloc: Global, words: &'a [&'a str]) -> Result<CommandLine
     ensures kinds { FailsBy (fault_of seatdesk_app (texts words.entry.now)) result }
 {
     match found_in(alloc, words) {
-        Ok(matches) => line_of(alloc, &matches),
+        Ok(matches) => {
+            let line = line_of(alloc, &matches);
+            drop(matches);
+            line
+        }
         Err(fault) => Err(fault),
     }
 }
@@ -201,7 +205,9 @@ fn fault_of_kind(alloc: Global, kind: ErrorKind, message: &str) -> Result<Error,
     let Ok(mut command) = seatdesk_command(alloc) else {
         return Err(AllocError);
     };
-    command.error(kind, message)
+    let fault = command.error(kind, message);
+    drop(command);
+    fault
 }
 
 #[tactic(auto, using(crate::proofs::Lines::nothing_found, crate::proofs::Lines::line_found))]
@@ -236,128 +242,167 @@ fn job_of_command<'a>(
     requires { has_values (values_of command) (rows_of (found_of matches.now)) ≡ true }
     ensures { IfOk result (λ job. Asks job (word_of command, rows_of (found_of matches.now))) }
 {
+    let Some(id) = several_id(command) else {
+        return Ok(job_of_single_values(command, matches));
+    };
+    let Ok(several) = any_values_of(alloc, matches, id) else {
+        return Err(AllocError);
+    };
+    Ok(job_of_several(command, matches, several))
+}
+
+// By which place or option a command may have several values, if it may.
+fn several_id(command: Named) -> Option<&'static str>
+    ensures { several_of command ≡ option_map (λ id. id.now) result }
+{
     match command {
-        Named::Ladder => Ok(Job::Ladder),
+        Named::Loads | Named::Waiting | Named::Carry => Some("others"),
+        Named::Run | Named::Route | Named::Audit | Named::Replies => Some("scripts"),
+        Named::Serve => Some("desk"),
+        Named::Bookings => Some("locator"),
+        Named::Explain => Some("numbers"),
+        _ => None,
+    }
+}
+
+// The job of a command that has no several values.
+fn job_of_single_values<'a>(command: Named, matches: &ArgMatches<'a>) -> Job<'a>
+    requires values { has_values (values_of command) (rows_of (found_of matches.now)) ≡ true }
+    requires single { several_of command ≡ None }
+    ensures { Asks result (word_of command, rows_of (found_of matches.now)) }
+{
+    match command {
+        Named::Ladder => Job::Ladder,
         Named::Check => check_job(matches),
         Named::Flights => flights_job(matches),
         Named::Cover => cover_job(matches),
         Named::Rooms => rooms_job(matches),
-        Named::Loads => loads_job(alloc, matches),
-        Named::Run => run_job(alloc, matches),
-        Named::Serve => serve_job(alloc, matches),
-        Named::Route => route_job(alloc, matches),
-        Named::Bookings => bookings_job(alloc, matches),
-        Named::Waiting => waiting_job(alloc, matches),
         Named::Pickup => pickup_job(matches),
         Named::History => history_job(matches),
         Named::Avs => avs_job(matches),
         Named::Reconcile => reconcile_job(matches),
         Named::Compare => compare_job(matches),
-        Named::Carry => carry_job(alloc, matches),
         Named::Changes => changes_job(matches),
-        Named::Audit => audit_job(alloc, matches),
         Named::Seal => seal_job(matches),
         Named::Recover => recover_job(matches),
-        Named::Replies => replies_job(alloc, matches),
         Named::Told => told_job(matches),
         Named::Why => why_job(matches),
-        Named::Explain => explain_job(alloc, matches),
         Named::Season => season_job(matches),
+        _ => unreachable!(),
     }
 }
 
-fn check_job<'a>(matches: &ArgMatches<'a>) -> Result<Job<'a>, AllocError>
-    requires { has_values (values_of named.Check) (rows_of (found_of matches.now)) ≡ true }
-    ensures { IfOk result (λ job. Asks job (codes "check", rows_of (found_of matches.now))) }
+// The job of a command that may have several values, with these.
+fn job_of_several<'a>(command: Named, matches: &ArgMatches<'a>, several: Several<'a>) -> Job<'a>
+    requires values { has_values (values_of command) (rows_of (found_of matches.now)) ≡ true }
+    requires several { IsSomeAnd (several_of command) (λ id. HasAny (rows_of (found_of matches.now)) id several) }
+    ensures { Asks result (word_of command, rows_of (found_of matches.now)) }
 {
-    Ok(Job::Check {
-        set: value_of(matches, "set"),
-    })
+    match command {
+        Named::Loads => loads_job(matches, several),
+        Named::Run => run_job(matches, several),
+        Named::Serve => serve_job(matches, several),
+        Named::Route => route_job(matches, several),
+        Named::Bookings => bookings_job(matches, several),
+        Named::Waiting => waiting_job(matches, several),
+        Named::Carry => carry_job(matches, several),
+        Named::Audit => audit_job(matches, several),
+        Named::Replies => replies_job(matches, several),
+        Named::Explain => explain_job(matches, several),
+        _ => unreachable!(),
+    }
 }
 
-fn flights_job<'a>(matches: &ArgMatches<'a>) -> Result<Job<'a>, AllocError>
-    requires { has_values (values_of named.Flights) (rows_of (found_of matches.now)) ≡ true }
-    ensures { IfOk result (λ job. Asks job (codes "flights", rows_of (found_of matches.now))) }
+fn check_job<'a>(matches: &ArgMatches<'a>) -> Job<'a>
+    requires { has_values (values_of named.Check) (rows_of (found_of matches.now)) ≡ true }
+    ensures { Asks result (codes "check", rows_of (found_of matches.now)) }
 {
-    Ok(Job::Flights {
+    Job::Check {
+        set: value_of(matches, "set"),
+    }
+}
+
+fn flights_job<'a>(matches: &ArgMatches<'a>) -> Job<'a>
+    requires { has_values (values_of named.Flights) (rows_of (found_of matches.now)) ≡ true }
+    ensures { Asks result (codes "flights", rows_of (found_of matches.now)) }
+{
+    Job::Flights {
         set: value_of(matches, "set"),
         first: value_of(matches, "first"),
         days: value_of(matches, "days"),
         shape: shape_of(matches),
-    })
+    }
 }
 
-fn seal_job<'a>(matches: &ArgMatches<'a>) -> Result<Job<'a>, AllocError>
+fn seal_job<'a>(matches: &ArgMatches<'a>) -> Job<'a>
     requires { has_values (values_of named.Seal) (rows_of (found_of matches.now)) ≡ true }
-    ensures { IfOk result (λ job. Asks job (codes "seal", rows_of (found_of matches.now))) }
+    ensures { Asks result (codes "seal", rows_of (found_of matches.now)) }
 {
-    Ok(Job::Seal {
+    Job::Seal {
         over: horizon_of(matches),
         journal: value_of(matches, "journal"),
-    })
+    }
 }
 
-fn recover_job<'a>(matches: &ArgMatches<'a>) -> Result<Job<'a>, AllocError>
+fn recover_job<'a>(matches: &ArgMatches<'a>) -> Job<'a>
     requires { has_values (values_of named.Recover) (rows_of (found_of matches.now)) ≡ true }
-    ensures { IfOk result (λ job. Asks job (codes "recover", rows_of (found_of matches.now))) }
+    ensures { Asks result (codes "recover", rows_of (found_of matches.now)) }
 {
-    Ok(Job::Recover {
+    Job::Recover {
         over: horizon_of(matches),
         cut: flag_of(matches, "cut"),
         journal: value_of(matches, "journal"),
-    })
+    }
 }
 
-fn why_job<'a>(matches: &ArgMatches<'a>) -> Result<Job<'a>, AllocError>
+fn why_job<'a>(matches: &ArgMatches<'a>) -> Job<'a>
     requires { has_values (values_of named.Why) (rows_of (found_of matches.now)) ≡ true }
-    ensures { IfOk result (λ job. Asks job (codes "why", rows_of (found_of matches.now))) }
+    ensures { Asks result (codes "why", rows_of (found_of matches.now)) }
 {
-    Ok(Job::Why {
+    Job::Why {
         over: horizon_of(matches),
         line: value_of(matches, "line"),
         is_open: flag_of(matches, "open"),
         journal: value_of(matches, "journal"),
-    })
+    }
 }
 
-fn season_job<'a>(matches: &ArgMatches<'a>) -> Result<Job<'a>, AllocError>
+fn season_job<'a>(matches: &ArgMatches<'a>) -> Job<'a>
     requires { has_values (values_of named.Season) (rows_of (found_of matches.now)) ≡ true }
-    ensures { IfOk result (λ job. Asks job (codes "season", rows_of (found_of matches.now))) }
+    ensures { Asks result (codes "season", rows_of (found_of matches.now)) }
 {
-    Ok(Job::Season {
+    Job::Season {
         set: value_of(matches, "set"),
         limits: value_of(matches, "limits"),
-    })
+    }
 }
 
-fn explain_job<'a>(alloc: Global, matches: &ArgMatches<'a>) -> Result<Job<'a>, AllocError>
-    requires { has_values (values_of named.Explain) (rows_of (found_of matches.now)) ≡ true }
-    ensures { IfOk result (λ job. Asks job (codes "explain", rows_of (found_of matches.now))) }
+fn explain_job<'a>(matches: &ArgMatches<'a>, numbers: Several<'a>) -> Job<'a>
+    requires values { has_values (values_of named.Explain) (rows_of (found_of matches.now)) ≡ true }
+    requires several { HasAny (rows_of (found_of matches.now)) (codes "numbers") numbers }
+    ensures { Asks result (codes "explain", rows_of (found_of matches.now)) }
 {
-    let Ok(numbers) = any_values_of(alloc, matches, "numbers") else {
-        return Err(AllocError);
-    };
-    Ok(Job::Explain {
+    Job::Explain {
         code: value_of(matches, "code"),
         numbers,
+    }
+}
+
+fn cover_job<'a>(matches: &ArgMatches<'a>) -> Job<'a>
+    requires { has_values (values_of named.Cover) (rows_of (found_of matches.now)) ≡ true }
+    ensures { Asks result (codes "cover", rows_of (found_of matches.now)) }
+{
+    Job::Cover(CoverJob {
+        over: horizon_of(matches),
+        shape: shape_of(matches),
     })
 }
 
-fn cover_job<'a>(matches: &ArgMatches<'a>) -> Result<Job<'a>, AllocError>
-    requires { has_values (values_of named.Cover) (rows_of (found_of matches.now)) ≡ true }
-    ensures { IfOk result (λ job. Asks job (codes "cover", rows_of (found_of matches.now))) }
-{
-    Ok(Job::Cover(CoverJob {
-        over: horizon_of(matches),
-        shape: shape_of(matches),
-    }))
-}
-
-fn rooms_job<'a>(matches: &ArgMatches<'a>) -> Result<Job<'a>, AllocError>
+fn rooms_job<'a>(matches: &ArgMatches<'a>) -> Job<'a>
     requires { has_values (values_of named.Rooms) (rows_of (found_of matches.now)) ≡ true }
-    ensures { IfOk result (λ job. Asks job (codes "rooms", rows_of (found_of matches.now))) }
+    ensures { Asks result (codes "rooms", rows_of (found_of matches.now)) }
 {
-    Ok(Job::Rooms(RoomsJob {
+    Job::Rooms(RoomsJob {
         over: horizon_of(matches),
         day: may_value_of(matches, "day"),
         pair: may_value_of(matches, "pair"),
@@ -365,17 +410,15 @@ fn rooms_job<'a>(matches: &ArgMatches<'a>) -> Result<Job<'a>, AllocError>
         shape: shape_of(matches),
         is_open: flag_of(matches, "open"),
         journal: may_value_of(matches, "journal"),
-    }))
+    })
 }
 
-fn loads_job<'a>(alloc: Global, matches: &ArgMatches<'a>) -> Result<Job<'a>, AllocError>
-    requires { has_values (values_of named.Loads) (rows_of (found_of matches.now)) ≡ true }
-    ensures { IfOk result (λ job. Asks job (codes "loads", rows_of (found_of matches.now))) }
+fn loads_job<'a>(matches: &ArgMatches<'a>, others: Several<'a>) -> Job<'a>
+    requires values { has_values (values_of named.Loads) (rows_of (found_of matches.now)) ≡ true }
+    requires several { HasAny (rows_of (found_of matches.now)) (codes "others") others }
+    ensures { Asks result (codes "loads", rows_of (found_of matches.now)) }
 {
-    let Ok(others) = any_values_of(alloc, matches, "others") else {
-        return Err(AllocError);
-    };
-    Ok(Job::Loads(LoadsJob {
+    Job::Loads(LoadsJob {
         over: horizon_of(matches),
         flight: may_value_of(matches, "flight"),
         day: may_value_of(matches, "day"),
@@ -388,17 +431,15 @@ fn loads_job<'a>(alloc: Global, matches: &ArgMatches<'a>) -> Result<Job<'a>, All
         are_shards: flag_of(matches, "shards"),
         journal: may_value_of(matches, "journal"),
         others,
-    }))
+    })
 }
 
-fn run_job<'a>(alloc: Global, matches: &ArgMatches<'a>) -> Result<Job<'a>, AllocError>
-    requires { has_values (values_of named.Run) (rows_of (found_of matches.now)) ≡ true }
-    ensures { IfOk result (λ job. Asks job (codes "run", rows_of (found_of matches.now))) }
+fn run_job<'a>(matches: &ArgMatches<'a>, scripts: Several<'a>) -> Job<'a>
+    requires values { has_values (values_of named.Run) (rows_of (found_of matches.now)) ≡ true }
+    requires several { HasAny (rows_of (found_of matches.now)) (codes "scripts") scripts }
+    ensures { Asks result (codes "run", rows_of (found_of matches.now)) }
 {
-    let Ok(scripts) = any_values_of(alloc, matches, "scripts") else {
-        return Err(AllocError);
-    };
-    Ok(Job::Run(RunJob {
+    Job::Run(RunJob {
         over: horizon_of(matches),
         after: may_value_of(matches, "after"),
         behind: may_value_of(matches, "behind"),
@@ -410,17 +451,15 @@ fn run_job<'a>(alloc: Global, matches: &ArgMatches<'a>) -> Result<Job<'a>, Alloc
         no_clobber: flag_of(matches, "no-clobber"),
         again: flag_of(matches, "again"),
         scripts,
-    }))
+    })
 }
 
-fn serve_job<'a>(alloc: Global, matches: &ArgMatches<'a>) -> Result<Job<'a>, AllocError>
-    requires { has_values (values_of named.Serve) (rows_of (found_of matches.now)) ≡ true }
-    ensures { IfOk result (λ job. Asks job (codes "serve", rows_of (found_of matches.now))) }
+fn serve_job<'a>(matches: &ArgMatches<'a>, desks: Several<'a>) -> Job<'a>
+    requires values { has_values (values_of named.Serve) (rows_of (found_of matches.now)) ≡ true }
+    requires several { HasAny (rows_of (found_of matches.now)) (codes "desk") desks }
+    ensures { Asks result (codes "serve", rows_of (found_of matches.now)) }
 {
-    let Ok(desks) = any_values_of(alloc, matches, "desk") else {
-        return Err(AllocError);
-    };
-    Ok(Job::Serve(ServeJob {
+    Job::Serve(ServeJob {
         over: horizon_of(matches),
         today: may_value_of(matches, "today"),
         journal: value_of(matches, "journal"),
@@ -431,32 +470,28 @@ fn serve_job<'a>(alloc: Global, matches: &ArgMatches<'a>) -> Result<Job<'a>, All
         feed: may_value_of(matches, "feed"),
         behind: may_value_of(matches, "behind"),
         closes_departed: flag_of(matches, "close-departed"),
-    }))
+    })
 }
 
-fn route_job<'a>(alloc: Global, matches: &ArgMatches<'a>) -> Result<Job<'a>, AllocError>
-    requires { has_values (values_of named.Route) (rows_of (found_of matches.now)) ≡ true }
-    ensures { IfOk result (λ job. Asks job (codes "route", rows_of (found_of matches.now))) }
+fn route_job<'a>(matches: &ArgMatches<'a>, scripts: Several<'a>) -> Job<'a>
+    requires values { has_values (values_of named.Route) (rows_of (found_of matches.now)) ≡ true }
+    requires several { HasAny (rows_of (found_of matches.now)) (codes "scripts") scripts }
+    ensures { Asks result (codes "route", rows_of (found_of matches.now)) }
 {
-    let Ok(scripts) = any_values_of(alloc, matches, "scripts") else {
-        return Err(AllocError);
-    };
     let changes = may_value_of(matches, "changes");
-    Ok(Job::Route(RouteJob {
+    Job::Route(RouteJob {
         shards: value_of(matches, "shards"),
         changes,
         scripts,
-    }))
+    })
 }
 
-fn bookings_job<'a>(alloc: Global, matches: &ArgMatches<'a>) -> Result<Job<'a>, AllocError>
-    requires { has_values (values_of named.Bookings) (rows_of (found_of matches.now)) ≡ true }
-    ensures { IfOk result (λ job. Asks job (codes "bookings", rows_of (found_of matches.now))) }
+fn bookings_job<'a>(matches: &ArgMatches<'a>, locators: Several<'a>) -> Job<'a>
+    requires values { has_values (values_of named.Bookings) (rows_of (found_of matches.now)) ≡ true }
+    requires several { HasAny (rows_of (found_of matches.now)) (codes "locator") locators }
+    ensures { Asks result (codes "bookings", rows_of (found_of matches.now)) }
 {
-    let Ok(locators) = any_values_of(alloc, matches, "locator") else {
-        return Err(AllocError);
-    };
-    Ok(Job::Bookings(BookingsJob {
+    Job::Bookings(BookingsJob {
         over: horizon_of(matches),
         locators,
         flight: may_value_of(matches, "flight"),
@@ -464,17 +499,15 @@ fn bookings_job<'a>(alloc: Global, matches: &ArgMatches<'a>) -> Result<Job<'a>, 
         shape: shape_of(matches),
         is_open: flag_of(matches, "open"),
         journal: value_of(matches, "journal"),
-    }))
+    })
 }
 
-fn waiting_job<'a>(alloc: Global, matches: &ArgMatches<'a>) -> Result<Job<'a>, AllocError>
-    requires { has_values (values_of named.Waiting) (rows_of (found_of matches.now)) ≡ true }
-    ensures { IfOk result (λ job. Asks job (codes "waiting", rows_of (found_of matches.now))) }
+fn waiting_job<'a>(matches: &ArgMatches<'a>, others: Several<'a>) -> Job<'a>
+    requires values { has_values (values_of named.Waiting) (rows_of (found_of matches.now)) ≡ true }
+    requires several { HasAny (rows_of (found_of matches.now)) (codes "others") others }
+    ensures { Asks result (codes "waiting", rows_of (found_of matches.now)) }
 {
-    let Ok(others) = any_values_of(alloc, matches, "others") else {
-        return Err(AllocError);
-    };
-    Ok(Job::Waiting(WaitingJob {
+    Job::Waiting(WaitingJob {
         over: horizon_of(matches),
         flight: may_value_of(matches, "flight"),
         day: may_value_of(matches, "day"),
@@ -483,14 +516,14 @@ fn waiting_job<'a>(alloc: Global, matches: &ArgMatches<'a>) -> Result<Job<'a>, A
         are_shards: flag_of(matches, "shards"),
         journal: value_of(matches, "journal"),
         others,
-    }))
+    })
 }
 
-fn pickup_job<'a>(matches: &ArgMatches<'a>) -> Result<Job<'a>, AllocError>
+fn pickup_job<'a>(matches: &ArgMatches<'a>) -> Job<'a>
     requires { has_values (values_of named.Pickup) (rows_of (found_of matches.now)) ≡ true }
-    ensures { IfOk result (λ job. Asks job (codes "pickup", rows_of (found_of matches.now))) }
+    ensures { Asks result (codes "pickup", rows_of (found_of matches.now)) }
 {
-    Ok(Job::Pickup(PickupJob {
+    Job::Pickup(PickupJob {
         over: horizon_of(matches),
         behind: may_value_of(matches, "behind"),
         since: may_value_of(matches, "since"),
@@ -499,14 +532,14 @@ fn pickup_job<'a>(matches: &ArgMatches<'a>) -> Result<Job<'a>, AllocError>
         shape: shape_of(matches),
         is_open: flag_of(matches, "open"),
         journal: value_of(matches, "journal"),
-    }))
+    })
 }
 
-fn history_job<'a>(matches: &ArgMatches<'a>) -> Result<Job<'a>, AllocError>
+fn history_job<'a>(matches: &ArgMatches<'a>) -> Job<'a>
     requires { has_values (values_of named.History) (rows_of (found_of matches.now)) ≡ true }
-    ensures { IfOk result (λ job. Asks job (codes "history", rows_of (found_of matches.now))) }
+    ensures { Asks result (codes "history", rows_of (found_of matches.now)) }
 {
-    Ok(Job::History(HistoryJob {
+    Job::History(HistoryJob {
         over: horizon_of(matches),
         locator: may_value_of(matches, "locator"),
         flight: may_value_of(matches, "flight"),
@@ -514,14 +547,14 @@ fn history_job<'a>(matches: &ArgMatches<'a>) -> Result<Job<'a>, AllocError>
         shape: shape_of(matches),
         is_open: flag_of(matches, "open"),
         journal: value_of(matches, "journal"),
-    }))
+    })
 }
 
-fn avs_job<'a>(matches: &ArgMatches<'a>) -> Result<Job<'a>, AllocError>
+fn avs_job<'a>(matches: &ArgMatches<'a>) -> Job<'a>
     requires { has_values (values_of named.Avs) (rows_of (found_of matches.now)) ≡ true }
-    ensures { IfOk result (λ job. Asks job (codes "avs", rows_of (found_of matches.now))) }
+    ensures { Asks result (codes "avs", rows_of (found_of matches.now)) }
 {
-    Ok(Job::Avs(AvsJob {
+    Job::Avs(AvsJob {
         horizon: horizon_of(matches),
         since: may_value_of(matches, "since"),
         numeric: flag_of(matches, "numeric"),
@@ -530,42 +563,40 @@ fn avs_job<'a>(matches: &ArgMatches<'a>) -> Result<Job<'a>, AllocError>
         day: may_value_of(matches, "day"),
         journal: value_of(matches, "journal"),
         is_open: flag_of(matches, "open"),
-    }))
+    })
 }
 
-fn reconcile_job<'a>(matches: &ArgMatches<'a>) -> Result<Job<'a>, AllocError>
+fn reconcile_job<'a>(matches: &ArgMatches<'a>) -> Job<'a>
     requires { has_values (values_of named.Reconcile) (rows_of (found_of matches.now)) ≡ true }
-    ensures { IfOk result (λ job. Asks job (codes "reconcile", rows_of (found_of matches.now))) }
+    ensures { Asks result (codes "reconcile", rows_of (found_of matches.now)) }
 {
-    Ok(Job::Reconcile(ReconcileJob {
+    Job::Reconcile(ReconcileJob {
         horizon: horizon_of(matches),
         session: may_value_of(matches, "session"),
         all: flag_of(matches, "all"),
         theirs: value_of(matches, "theirs"),
         journal: value_of(matches, "journal"),
         is_open: flag_of(matches, "open"),
-    }))
+    })
 }
 
-fn compare_job<'a>(matches: &ArgMatches<'a>) -> Result<Job<'a>, AllocError>
+fn compare_job<'a>(matches: &ArgMatches<'a>) -> Job<'a>
     requires { has_values (values_of named.Compare) (rows_of (found_of matches.now)) ≡ true }
-    ensures { IfOk result (λ job. Asks job (codes "compare", rows_of (found_of matches.now))) }
+    ensures { Asks result (codes "compare", rows_of (found_of matches.now)) }
 {
-    Ok(Job::Compare(CompareJob {
+    Job::Compare(CompareJob {
         from: value_of(matches, "from"),
         to: value_of(matches, "to"),
         journal: may_value_of(matches, "journal"),
-    }))
+    })
 }
 
-fn carry_job<'a>(alloc: Global, matches: &ArgMatches<'a>) -> Result<Job<'a>, AllocError>
-    requires { has_values (values_of named.Carry) (rows_of (found_of matches.now)) ≡ true }
-    ensures { IfOk result (λ job. Asks job (codes "carry", rows_of (found_of matches.now))) }
+fn carry_job<'a>(matches: &ArgMatches<'a>, others: Several<'a>) -> Job<'a>
+    requires values { has_values (values_of named.Carry) (rows_of (found_of matches.now)) ≡ true }
+    requires several { HasAny (rows_of (found_of matches.now)) (codes "others") others }
+    ensures { Asks result (codes "carry", rows_of (found_of matches.now)) }
 {
-    let Ok(others) = any_values_of(alloc, matches, "others") else {
-        return Err(AllocError);
-    };
-    Ok(Job::Carry(CarryJob {
+    Job::Carry(CarryJob {
         from: value_of(matches, "from"),
         to: value_of(matches, "to"),
         today: value_of(matches, "today"),
@@ -580,14 +611,14 @@ fn carry_job<'a>(alloc: Global, matches: &ArgMatches<'a>) -> Result<Job<'a>, All
         shape: shape_of(matches),
         journal: value_of(matches, "carried"),
         others,
-    }))
+    })
 }
 
-fn changes_job<'a>(matches: &ArgMatches<'a>) -> Result<Job<'a>, AllocError>
+fn changes_job<'a>(matches: &ArgMatches<'a>) -> Job<'a>
     requires { has_values (values_of named.Changes) (rows_of (found_of matches.now)) ≡ true }
-    ensures { IfOk result (λ job. Asks job (codes "changes", rows_of (found_of matches.now))) }
+    ensures { Asks result (codes "changes", rows_of (found_of matches.now)) }
 {
-    Ok(Job::Changes(ChangesJob {
+    Job::Changes(ChangesJob {
         over: horizon_of(matches),
         wanted: value_of(matches, "to"),
         flight: may_value_of(matches, "flight"),
@@ -595,17 +626,15 @@ fn changes_job<'a>(matches: &ArgMatches<'a>) -> Result<Job<'a>, AllocError>
         pair: may_value_of(matches, "pair"),
         is_open: flag_of(matches, "open"),
         journal: value_of(matches, "journal"),
-    }))
+    })
 }
 
-fn audit_job<'a>(alloc: Global, matches: &ArgMatches<'a>) -> Result<Job<'a>, AllocError>
-    requires { has_values (values_of named.Audit) (rows_of (found_of matches.now)) ≡ true }
-    ensures { IfOk result (λ job. Asks job (codes "audit", rows_of (found_of matches.now))) }
+fn audit_job<'a>(matches: &ArgMatches<'a>, scripts: Several<'a>) -> Job<'a>
+    requires values { has_values (values_of named.Audit) (rows_of (found_of matches.now)) ≡ true }
+    requires several { HasAny (rows_of (found_of matches.now)) (codes "scripts") scripts }
+    ensures { Asks result (codes "audit", rows_of (found_of matches.now)) }
 {
-    let Ok(scripts) = any_values_of(alloc, matches, "scripts") else {
-        return Err(AllocError);
-    };
-    Ok(Job::Audit(AuditJob {
+    Job::Audit(AuditJob {
         over: horizon_of(matches),
         after: may_value_of(matches, "after"),
         behind: may_value_of(matches, "behind"),
@@ -616,17 +645,15 @@ fn audit_job<'a>(alloc: Global, matches: &ArgMatches<'a>) -> Result<Job<'a>, All
         are_shards: flag_of(matches, "shards"),
         journal: value_of(matches, "journal"),
         scripts,
-    }))
+    })
 }
 
-fn replies_job<'a>(alloc: Global, matches: &ArgMatches<'a>) -> Result<Job<'a>, AllocError>
-    requires { has_values (values_of named.Replies) (rows_of (found_of matches.now)) ≡ true }
-    ensures { IfOk result (λ job. Asks job (codes "replies", rows_of (found_of matches.now))) }
+fn replies_job<'a>(matches: &ArgMatches<'a>, scripts: Several<'a>) -> Job<'a>
+    requires values { has_values (values_of named.Replies) (rows_of (found_of matches.now)) ≡ true }
+    requires several { HasAny (rows_of (found_of matches.now)) (codes "scripts") scripts }
+    ensures { Asks result (codes "replies", rows_of (found_of matches.now)) }
 {
-    let Ok(scripts) = any_values_of(alloc, matches, "scripts") else {
-        return Err(AllocError);
-    };
-    Ok(Job::Replies(RepliesJob {
+    Job::Replies(RepliesJob {
         over: horizon_of(matches),
         after: may_value_of(matches, "after"),
         behind: may_value_of(matches, "behind"),
@@ -637,20 +664,20 @@ fn replies_job<'a>(alloc: Global, matches: &ArgMatches<'a>) -> Result<Job<'a>, A
         shape: shape_of(matches),
         journal: value_of(matches, "journal"),
         scripts,
-    }))
+    })
 }
 
-fn told_job<'a>(matches: &ArgMatches<'a>) -> Result<Job<'a>, AllocError>
+fn told_job<'a>(matches: &ArgMatches<'a>) -> Job<'a>
     requires { has_values (values_of named.Told) (rows_of (found_of matches.now)) ≡ true }
-    ensures { IfOk result (λ job. Asks job (codes "told", rows_of (found_of matches.now))) }
+    ensures { Asks result (codes "told", rows_of (found_of matches.now)) }
 {
-    Ok(Job::Told(ToldJob {
+    Job::Told(ToldJob {
         over: horizon_of(matches),
         desk: value_of(matches, "desk"),
         from: may_value_of(matches, "from"),
         is_open: flag_of(matches, "open"),
         journal: value_of(matches, "journal"),
-    }))
+    })
 }
 
 fn shape_of(matches: &ArgMatches<'_>) -> Shape

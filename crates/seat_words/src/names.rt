@@ -10,8 +10,16 @@ use airline_base::{Airline, Locator, Station};
 pub fn pair_word(word: &str) -> Option<(Station, Station)>
     ensures { result ≡ pair_word_in word.now }
 {
-    let (board, off) = word.as_bytes().split_at_checked(3)?;
-    Some((Station::new(board)?, Station::new(off)?))
+    let Some((board, off)) = word.as_bytes().split_at_checked(3) else {
+        return None;
+    };
+    let Some(board) = Station::new(board) else {
+        return None;
+    };
+    let Some(off) = Station::new(off) else {
+        return None;
+    };
+    Some((board, off))
 }
 
 /// The airline, the number of 1 to 9999 and the operational suffix of the flight that the word names, as `LZ601` or `LZ205A`.
@@ -25,7 +33,9 @@ pub fn flight_word(word: &str) -> Option<(Airline, u16, Option<u8>)>
     let Some((number, rest)) = numeral_of(rest, 4) else {
         return None;
     };
-    let suffix = suffix_of(rest)?;
+    let Some(suffix) = suffix_of(rest) else {
+        return None;
+    };
     Some((airline, number, suffix))
 }
 

@@ -7,7 +7,9 @@ ghost use Rattle.seat_words.specs.PipeWords.{pipes_in};
 pub fn pipes_of(word: &str) -> Option<(&str, &str)>
     ensures { option_map (λ pipes. (pipes.0.now, pipes.1.now)) result ≡ pipes_in word.now }
 {
-    let (input, out) = word.split_once(':')?;
+    let Some((input, out)) = word.split_once(':') else {
+        return None;
+    };
     if input.is_empty() || out.is_empty() {
         return None;
     }

@@ -205,7 +205,9 @@ fn is_of_a_session(word: &str) -> bool
 fn numbered(word: &str) -> Option<(u8, &str)>
     ensures { option_map (λ named. (named.0, named.1.now)) result ≡ numbered word.now }
 {
-    let (digits, file) = word.split_once('=')?;
+    let Some((digits, file)) = word.split_once('=') else {
+        return None;
+    };
     let digits = digits.as_bytes();
     if digits.is_empty() || !are_digits(digits) {
         return None;

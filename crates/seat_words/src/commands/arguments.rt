@@ -1,7 +1,7 @@
 //! What a command is made of: its name, its help, its options and its other words.
-ghost use Rattle.std.specs.Prelude.{IfOk, IsOkAnd};
-ghost use Rattle.clap.specs.Words.{AddsArg, App, new_app};
-ghost use Rattle.seat_words.specs.CommandLine.{IsBuiltAs, IsReadAlike, IsReadAs, app_as, flag, lettered_flag, optional, optional_several, optional_value, optional_values, trailing_values, required_option, required_value, rule_as, with_arguments};
+ghost use Rattle.std.specs.Prelude.{◌≡◌, IfOk, IsOkAnd};
+ghost use Rattle.clap.specs.Words.{AddsArg, App, Text, new_app};
+ghost use Rattle.seat_words.specs.CommandLine.{IsBuiltAs, IsReadAlike, IsReadAs, app_as, before_its_own, flag, lettered_flag, optional, optional_several, optional_value, optional_values, trailing_values, required_option, required_value, rule_as, with_arguments};
 
 use clap::{Arg, ArgAction, Command};
 use std::alloc::{AllocError, Global};
@@ -60,7 +60,7 @@ pub(super) enum Argument {
 }
 
 /// The arguments of a command over the limits of the dated flights.
-pub(super) const HORIZON: &[Argument] = &[
+const HORIZON: &[Argument] = &[
     Argument::Wanted("set", "SET", SET_HELP),
     Argument::Wanted("limits", "LIMITS", LIMITS_HELP),
     Argument::Wanted("first", "DATE", FIRST_HELP),
@@ -68,27 +68,39 @@ pub(super) const HORIZON: &[Argument] = &[
     Argument::Optional("season", "SEASON", SEASON_HELP),
 ];
 
-/// One command: its name, what its help says before and behind its arguments, and these.
+/// One command: its name, what its help says before its arguments, and these.
 pub(super) struct Described {
     pub(super) name: &'static str,
     pub(super) about: &'static str,
-    pub(super) more: &'static str,
-    /// Those of a horizon where it works over one, and else none.
-    pub(super) horizon: &'static [Argument],
-    /// Its own, behind them.
+    /// Whether it works over a horizon, and so has the arguments of one.
+    pub(super) over_horizon: bool,
+    /// Its own arguments, behind those.
     pub(super) arguments: &'static [Argument],
 }
 
-// The command that is so described, if it could be made.
+// The command that is so described, with what its help says behind its arguments, if it could be made.
 pub(super) fn described_command<'a>(
     alloc: Global,
     described: &Described,
+    more: &'a str,
 ) -> Result<Command<'a>, AllocError>
     ensures { IfOk result (IsBuiltAs (app_as described.now)) }
 {
-    let command = named_command(alloc, described.name, described.about, described.more);
-    let command = with_arguments(alloc, Ok(command), described.horizon);
+    let command = named_command(alloc, described.name, described.about, more);
+    let command = with_arguments(
+        alloc,
+        Ok(command),
+        horizon_arguments(described.over_horizon),
+    );
     with_arguments(alloc, command, described.arguments)
+}
+
+// The arguments of a horizon for a command that works over one, and else none.
+#[tactic(auto, unfolding(crate::specs::CommandLine::horizon_app))]
+fn horizon_arguments(over_horizon: bool) -> &'static [Argument]
+    ensures { (name : Text) → with_arguments (new_app name) result.now ≡ before_its_own over_horizon name }
+{
+    if over_horizon { HORIZON } else { &[] }
 }
 
 // The command with these arguments, one after the other, if it could be made.
@@ -157,6 +169,7 @@ pub(super) fn with_argument<'a>(
     ensures { IfOk result (λ new. IsOkAnd command.entry (λ old. AddsArg old argument.entry new)) }
 {
     let Ok(command) = command else {
+        drop(argument);
         return Err(AllocError);
     };
     command.arg(argument)

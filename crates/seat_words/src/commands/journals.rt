@@ -2,7 +2,7 @@
 
 use crate::commands::arguments::Argument::{Flag, Optional, Wanted, WantedWord, Words};
 use crate::commands::arguments::{
-    CSV_HELP, Described, HORIZON, JOURNAL_HELP, JSON_HELP, OPEN_HELP, SCRIPTS_HELP, TODAY_HELP,
+    CSV_HELP, Described, JOURNAL_HELP, JSON_HELP, OPEN_HELP, SCRIPTS_HELP, TODAY_HELP,
 };
 
 const OLDER_HELP: &str =
@@ -41,8 +41,7 @@ const LINE_HELP: &str = "The line of the journal, counted from 1";
 pub(super) const AUDIT: &Described = &Described {
     name: "audit",
     about: "Replays a journal against its schedule and limits, and writes one summary line",
-    more: "A journal belongs to its set, limits, first day and days. With the scripts audit sees whether they are those: over\nanother first day its lines are not what the scripts ask (P8). Where JOURNAL.seal stands beside JOURNAL, it is compared; --shards looks at no seal.\n\nExample: seatdesk audit --set examples/summer.ssim --limits examples/limits.txt --first 2024-07-01 --days 31 examples/journal.txt\n\nAgainst its scripts: seatdesk audit --set examples/summer.ssim --limits examples/limits.txt --first 2024-07-01 --days 31 --today 2024-06-20 examples/journal.txt examples/london.txt examples/lisbon.txt\n\nThe day after: seatdesk audit --set examples/summer.ssim --limits examples/limits.txt --first 2024-07-01 --days 31 --after examples/journal.txt --today 2024-06-21 journal-2.txt examples/london-2.txt\n\nOf several hosts: seatdesk audit --set examples/summer.ssim --limits examples/limits.txt --first 2024-07-01 --days 31 --shards examples/journal.txt journal-3.txt",
-    horizon: HORIZON,
+    over_horizon: true,
     arguments: &[
         Optional("after", "JOURNAL", OLDER_HELP),
         Optional("behind", "N", BEHIND_HELP),
@@ -56,11 +55,13 @@ pub(super) const AUDIT: &Described = &Described {
     ],
 };
 
+pub(super) const AUDIT_MORE: &str =
+    "A journal belongs to its set, limits, first day and days. With the scripts audit sees whether they are those: over\nanother first day its lines are not what the scripts ask (P8). Where JOURNAL.seal stands beside JOURNAL, it is compared; --shards looks at no seal.\n\nExample: seatdesk audit --set examples/summer.ssim --limits examples/limits.txt --first 2024-07-01 --days 31 examples/journal.txt\n\nAgainst its scripts: seatdesk audit --set examples/summer.ssim --limits examples/limits.txt --first 2024-07-01 --days 31 --today 2024-06-20 examples/journal.txt examples/london.txt examples/lisbon.txt\n\nThe day after: seatdesk audit --set examples/summer.ssim --limits examples/limits.txt --first 2024-07-01 --days 31 --after examples/journal.txt --today 2024-06-21 journal-2.txt examples/london-2.txt\n\nOf several hosts: seatdesk audit --set examples/summer.ssim --limits examples/limits.txt --first 2024-07-01 --days 31 --shards examples/journal.txt journal-3.txt";
+
 pub(super) const REPLIES: &Described = &Described {
     name: "replies",
     about: "Writes the replies of a run once more, from its journal and its scripts",
-    more: "It writes what run wrote to standard output, and refuses what audit refuses with the same words.\n\nExample: seatdesk replies --set examples/summer.ssim --limits examples/limits.txt --first 2024-07-01 --days 31 --today 2024-06-20 examples/journal.txt examples/london.txt examples/lisbon.txt",
-    horizon: HORIZON,
+    over_horizon: true,
     arguments: &[
         Optional("after", "JOURNAL", REPLIED_HELP),
         Optional("behind", "N", BEHIND_HELP),
@@ -75,11 +76,13 @@ pub(super) const REPLIES: &Described = &Described {
     ],
 };
 
+pub(super) const REPLIES_MORE: &str =
+    "It writes what run wrote to standard output, and refuses what audit refuses with the same words.\n\nExample: seatdesk replies --set examples/summer.ssim --limits examples/limits.txt --first 2024-07-01 --days 31 --today 2024-06-20 examples/journal.txt examples/london.txt examples/lisbon.txt";
+
 pub(super) const TOLD: &Described = &Described {
     name: "told",
     about: "Writes what a desk is told of a journal: the replies to its lines, and the advices to its bookings",
-    more: "A desk is told of its own alone, each under its own session and the number of the line that is told of.\n\nExample: seatdesk told --set examples/summer.ssim --limits examples/limits.txt --first 2024-07-01 --days 31 --desk 2 examples/journal.txt",
-    horizon: HORIZON,
+    over_horizon: true,
     arguments: &[
         Wanted("desk", "N", DESK_HELP),
         Optional("from", "LINE", TOLD_HELP),
@@ -88,14 +91,19 @@ pub(super) const TOLD: &Described = &Described {
     ],
 };
 
+pub(super) const TOLD_MORE: &str =
+    "A desk is told of its own alone, each under its own session and the number of the line that is told of.\n\nExample: seatdesk told --set examples/summer.ssim --limits examples/limits.txt --first 2024-07-01 --days 31 --desk 2 examples/journal.txt";
+
 pub(super) const WHY: &Described = &Described {
     name: "why",
     about: "Writes the reason of one reply of a journal: what the limits left, and the right answer",
-    more: "Only the lines before it need be right, so it explains the line that audit refuses.\n\nExample: seatdesk why --set examples/summer.ssim --limits examples/limits.txt --first 2024-07-01 --days 31 --line 6 examples/journal.txt",
-    horizon: HORIZON,
+    over_horizon: true,
     arguments: &[
         Wanted("line", "N", LINE_HELP),
         Flag("open", OPEN_HELP),
         WantedWord("journal", "JOURNAL", JOURNAL_HELP),
     ],
 };
+
+pub(super) const WHY_MORE: &str =
+    "Only the lines before it need be right, so it explains the line that audit refuses.\n\nExample: seatdesk why --set examples/summer.ssim --limits examples/limits.txt --first 2024-07-01 --days 31 --line 6 examples/journal.txt";

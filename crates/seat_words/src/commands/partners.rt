@@ -1,7 +1,7 @@
 //! The commands for partners: what they are to show as available, and where their lists differ.
 
 use crate::commands::arguments::Argument::{Flag, Optional, WantedWord};
-use crate::commands::arguments::{Described, FLIGHT_HELP, HORIZON, JOURNAL_HELP, OPEN_HELP};
+use crate::commands::arguments::{Described, FLIGHT_HELP, JOURNAL_HELP, OPEN_HELP};
 
 const SINCE_HELP: &str = "An older JOURNAL (a file): only what changed behind its lines is written";
 
@@ -21,8 +21,7 @@ const THEIRS_HELP: &str = "The list of a partner or a desk, as bookings writes o
 pub(super) const AVS: &Described = &Described {
     name: "avs",
     about: "Writes what partners are to show as available: the status of each segment and class",
-    more: "Example: seatdesk avs --set examples/summer.ssim --limits examples/limits.txt --first 2024-07-01 --days 31 examples/journal.txt\n\nWhat a night changed: seatdesk avs --set examples/summer.ssim --limits examples/limits.txt --first 2024-07-01 --days 31 --since examples/journal.txt --numeric journal-2.txt",
-    horizon: HORIZON,
+    over_horizon: true,
     arguments: &[
         Optional("since", "OLDER", SINCE_HELP),
         Flag("numeric", NUMERIC_HELP),
@@ -34,11 +33,13 @@ pub(super) const AVS: &Described = &Described {
     ],
 };
 
+pub(super) const AVS_MORE: &str =
+    "Example: seatdesk avs --set examples/summer.ssim --limits examples/limits.txt --first 2024-07-01 --days 31 examples/journal.txt\n\nWhat a night changed: seatdesk avs --set examples/summer.ssim --limits examples/limits.txt --first 2024-07-01 --days 31 --since examples/journal.txt --numeric journal-2.txt";
+
 pub(super) const RECONCILE: &Described = &Described {
     name: "reconcile",
     about: "Writes where the list of a partner or a desk differs from the bookings of a journal",
-    more: "One of --session and --all says whose bookings the list is to have. The status is 1 where anything differs.\n\nExample: seatdesk reconcile --set examples/summer.ssim --limits examples/limits.txt --first 2024-07-01 --days 31 --session 2 theirs.txt examples/journal.txt",
-    horizon: HORIZON,
+    over_horizon: true,
     arguments: &[
         Optional("session", "N", SESSION_HELP),
         Flag("all", ALL_HELP),
@@ -47,3 +48,6 @@ pub(super) const RECONCILE: &Described = &Described {
         WantedWord("journal", "JOURNAL", JOURNAL_HELP),
     ],
 };
+
+pub(super) const RECONCILE_MORE: &str =
+    "One of --session and --all says whose bookings the list is to have. The status is 1 where anything differs.\n\nExample: seatdesk reconcile --set examples/summer.ssim --limits examples/limits.txt --first 2024-07-01 --days 31 --session 2 theirs.txt examples/journal.txt";

@@ -4,7 +4,7 @@ use crate::commands::arguments::Argument::{
     Flag, Optional, OptionalWord, Several, WantedWord, Words,
 };
 use crate::commands::arguments::{
-    CSV_HELP, Described, FLIGHT_HELP, HORIZON, JOURNAL_HELP, JSON_HELP, OPEN_HELP,
+    CSV_HELP, Described, FLIGHT_HELP, JOURNAL_HELP, JSON_HELP, OPEN_HELP,
 };
 
 const DAY_HELP: &str = "The places that depart on this day alone, as 2024-06-01";
@@ -49,8 +49,7 @@ const LOCATOR_HELP: &str =
 pub(super) const ROOMS: &Described = &Described {
     name: "rooms",
     about: "Writes the seats that are left on each place of a flight, by class",
-    more: "Example: seatdesk rooms --set examples/summer.ssim --limits examples/limits.txt --first 2024-07-01 --days 31 --day 2024-07-27 --pair LHRKEF examples/journal.txt",
-    horizon: HORIZON,
+    over_horizon: true,
     arguments: &[
         Optional("day", "DATE", DAY_HELP),
         Optional("pair", "PAIR", PAIR_HELP),
@@ -62,11 +61,13 @@ pub(super) const ROOMS: &Described = &Described {
     ],
 };
 
+pub(super) const ROOMS_MORE: &str =
+    "Example: seatdesk rooms --set examples/summer.ssim --limits examples/limits.txt --first 2024-07-01 --days 31 --day 2024-07-27 --pair LHRKEF examples/journal.txt";
+
 pub(super) const LOADS: &Described = &Described {
     name: "loads",
     about: "Writes how full each dated leg is, by class, and what all of them come to",
-    more: "Example: seatdesk loads --set examples/summer.ssim --limits examples/limits.txt --first 2024-07-01 --days 31 --day 2024-07-27 examples/journal.txt\n\nOf several hosts: seatdesk loads --set examples/summer.ssim --limits examples/limits.txt --first 2024-07-01 --days 31 --shards examples/journal.txt journal-3.txt",
-    horizon: HORIZON,
+    over_horizon: true,
     arguments: &[
         Optional("flight", "FLIGHT", FLIGHT_HELP),
         Optional("day", "DATE", LEG_DAY_HELP),
@@ -83,11 +84,13 @@ pub(super) const LOADS: &Described = &Described {
     ],
 };
 
+pub(super) const LOADS_MORE: &str =
+    "Example: seatdesk loads --set examples/summer.ssim --limits examples/limits.txt --first 2024-07-01 --days 31 --day 2024-07-27 examples/journal.txt\n\nOf several hosts: seatdesk loads --set examples/summer.ssim --limits examples/limits.txt --first 2024-07-01 --days 31 --shards examples/journal.txt journal-3.txt";
+
 pub(super) const BOOKINGS: &Described = &Described {
     name: "bookings",
     about: "Writes live bookings, of locators or of a flight, in the codes of AIRIMP",
-    more: "Example: seatdesk bookings --set examples/summer.ssim --limits examples/limits.txt --first 2024-07-01 --days 31 --locator B3N6VC examples/journal.txt",
-    horizon: HORIZON,
+    over_horizon: true,
     arguments: &[
         Several("locator", "LOCATOR", LOCATOR_HELP),
         Optional("flight", "FLIGHT", FLIGHT_HELP),
@@ -99,11 +102,13 @@ pub(super) const BOOKINGS: &Described = &Described {
     ],
 };
 
+pub(super) const BOOKINGS_MORE: &str =
+    "Example: seatdesk bookings --set examples/summer.ssim --limits examples/limits.txt --first 2024-07-01 --days 31 --locator B3N6VC examples/journal.txt";
+
 pub(super) const WAITING: &Described = &Described {
     name: "waiting",
     about: "Writes who waits, in the order in which they would be confirmed, and the seats that they lack",
-    more: "Example: seatdesk waiting --set examples/summer.ssim --limits examples/limits.txt --first 2024-07-01 --days 31 --flight LZ601 --day 2024-07-27 examples/journal.txt\n\nOf several hosts: seatdesk waiting --set examples/summer.ssim --limits examples/limits.txt --first 2024-07-01 --days 31 --shards examples/journal.txt journal-3.txt",
-    horizon: HORIZON,
+    over_horizon: true,
     arguments: &[
         Optional("flight", "FLIGHT", FLIGHT_HELP),
         Optional("day", "DATE", DAY_HELP),
@@ -116,11 +121,13 @@ pub(super) const WAITING: &Described = &Described {
     ],
 };
 
+pub(super) const WAITING_MORE: &str =
+    "Example: seatdesk waiting --set examples/summer.ssim --limits examples/limits.txt --first 2024-07-01 --days 31 --flight LZ601 --day 2024-07-27 examples/journal.txt\n\nOf several hosts: seatdesk waiting --set examples/summer.ssim --limits examples/limits.txt --first 2024-07-01 --days 31 --shards examples/journal.txt journal-3.txt";
+
 pub(super) const PICKUP: &Described = &Described {
     name: "pickup",
     about: "Writes what was held, sold, cancelled and confirmed behind a line of a journal, by flight and class",
-    more: "One of --behind and --since says what stands ahead.\n\nExample: seatdesk pickup --set examples/summer.ssim --limits examples/limits.txt --first 2024-07-01 --days 31 --behind 8 examples/journal.txt",
-    horizon: HORIZON,
+    over_horizon: true,
     arguments: &[
         Optional("behind", "N", PICKED_HELP),
         Optional("since", "OLDER", SINCE_HELP),
@@ -133,11 +140,13 @@ pub(super) const PICKUP: &Described = &Described {
     ],
 };
 
+pub(super) const PICKUP_MORE: &str =
+    "One of --behind and --since says what stands ahead.\n\nExample: seatdesk pickup --set examples/summer.ssim --limits examples/limits.txt --first 2024-07-01 --days 31 --behind 8 examples/journal.txt";
+
 pub(super) const HISTORY: &Described = &Described {
     name: "history",
     about: "Writes what the lines of a journal did for a locator or on a flight, each with its reply",
-    more: "One of --locator and --flight says whose.\n\nExample: seatdesk history --set examples/summer.ssim --limits examples/limits.txt --first 2024-07-01 --days 31 --locator W8Y3ZA examples/journal.txt",
-    horizon: HORIZON,
+    over_horizon: true,
     arguments: &[
         Optional("locator", "LOCATOR", HISTORY_LOCATOR_HELP),
         Optional("flight", "FLIGHT", FLIGHT_HELP),
@@ -148,3 +157,6 @@ pub(super) const HISTORY: &Described = &Described {
         WantedWord("journal", "JOURNAL", JOURNAL_HELP),
     ],
 };
+
+pub(super) const HISTORY_MORE: &str =
+    "One of --locator and --flight says whose.\n\nExample: seatdesk history --set examples/summer.ssim --limits examples/limits.txt --first 2024-07-01 --days 31 --locator W8Y3ZA examples/journal.txt";

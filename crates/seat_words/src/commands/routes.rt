@@ -11,11 +11,13 @@ const ROUTED_CHANGES_HELP: &str =
 pub(super) const ROUTE: &Described = &Described {
     name: "route",
     about: "Says which shard each line of scripts goes to, where the flights are divided among several hosts",
-    more: "A shard is one host of several that have different flights; they count from 1. A flight goes by its designator, so all its days and legs\nare of one shard.\n\nExample: seatdesk route --shards 4 examples/london.txt examples/lisbon.txt",
-    horizon: &[],
+    over_horizon: false,
     arguments: &[
         Wanted("shards", "N", SHARDS_HELP),
         Optional("changes", "FILE", ROUTED_CHANGES_HELP),
         Words("scripts", "SCRIPT", SCRIPTS_HELP),
     ],
 };
+
+pub(super) const ROUTE_MORE: &str =
+    "A shard is one host of several that have different flights; they count from 1. A flight goes by its designator, so all its days and legs\nare of one shard.\n\nExample: seatdesk route --shards 4 examples/london.txt examples/lisbon.txt";

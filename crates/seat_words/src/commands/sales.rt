@@ -2,8 +2,7 @@
 
 use crate::commands::arguments::Argument::{Flag, Optional, Several, Wanted, WantedWord, Words};
 use crate::commands::arguments::{
-    CSV_HELP, Described, FROM_SEASON_HELP, HORIZON, JSON_HELP, SCRIPTS_HELP, TO_SEASON_HELP,
-    TODAY_HELP,
+    CSV_HELP, Described, FROM_SEASON_HELP, JSON_HELP, SCRIPTS_HELP, TO_SEASON_HELP, TODAY_HELP,
 };
 
 const SERVED_DAY_HELP: &str =
@@ -96,8 +95,7 @@ const OTHERS_CARRIED_HELP: &str =
 pub(super) const RUN: &Described = &Described {
     name: "run",
     about: "Books the requests of scripts, one session on a thread for each script, and writes the replies",
-    more: "OUT has its old bytes until the new journal is whole and takes its name; a refused run leaves it as it was.\nWhat it had is kept beside it, as OUT.kept-1, unless --after or --resume names OUT itself, as the daily command does.\nThe journal of --after belongs to its set, limits, first day and days: name the same ones.\n\nExample: seatdesk run --set examples/summer.ssim --limits examples/limits.txt --first 2024-07-01 --days 31 --today 2024-06-20 --journal journal.txt examples/london.txt examples/lisbon.txt\n\nWith changes of the limits: seatdesk run --set examples/summer.ssim --limits examples/limits.txt --first 2024-07-01 --days 31 --today 2024-06-20 --journal journal.txt --changes examples/changes.txt examples/london.txt examples/lisbon.txt\n\nChanges alone: seatdesk run --set examples/summer.ssim --limits examples/limits.txt --first 2024-07-01 --days 31 --today 2024-06-20 --journal journal.txt --changes examples/changes.txt\n\nDesks that keep their numbers, as sessions 1 and 3: seatdesk run --set examples/summer.ssim --limits examples/limits.txt --first 2024-07-01 --days 31 --today 2024-06-20 --journal journal.txt 1=examples/london.txt 3=examples/lisbon.txt\n\nThe day after: seatdesk run --set examples/summer.ssim --limits examples/limits.txt --first 2024-07-01 --days 31 --after examples/journal.txt --today 2024-06-21 --journal journal-2.txt examples/london-2.txt\n\nScripts to which requests were added: seatdesk run --set examples/summer.ssim --limits examples/limits.txt --first 2024-07-01 --days 31 --resume examples/journal.txt --today 2024-06-20 --journal journal.txt examples/london.txt examples/lisbon.txt\n\nA wrong line stops no desk: seatdesk run --set examples/summer.ssim --limits examples/limits.txt --first 2024-07-01 --days 31 --today 2024-06-20 --journal journal.txt --refused refused.txt examples/london.txt examples/lisbon.txt",
-    horizon: HORIZON,
+    over_horizon: true,
     arguments: &[
         Optional("after", "JOURNAL", AFTER_HELP),
         Optional("behind", "N", BEGUN_HELP),
@@ -112,11 +110,13 @@ pub(super) const RUN: &Described = &Described {
     ],
 };
 
+pub(super) const RUN_MORE: &str =
+    "OUT has its old bytes until the new journal is whole and takes its name; a refused run leaves it as it was.\nWhat it had is kept beside it, as OUT.kept-1, unless --after or --resume names OUT itself, as the daily command does.\nThe journal of --after belongs to its set, limits, first day and days: name the same ones.\n\nExample: seatdesk run --set examples/summer.ssim --limits examples/limits.txt --first 2024-07-01 --days 31 --today 2024-06-20 --journal journal.txt examples/london.txt examples/lisbon.txt\n\nWith changes of the limits: seatdesk run --set examples/summer.ssim --limits examples/limits.txt --first 2024-07-01 --days 31 --today 2024-06-20 --journal journal.txt --changes examples/changes.txt examples/london.txt examples/lisbon.txt\n\nChanges alone: seatdesk run --set examples/summer.ssim --limits examples/limits.txt --first 2024-07-01 --days 31 --today 2024-06-20 --journal journal.txt --changes examples/changes.txt\n\nDesks that keep their numbers, as sessions 1 and 3: seatdesk run --set examples/summer.ssim --limits examples/limits.txt --first 2024-07-01 --days 31 --today 2024-06-20 --journal journal.txt 1=examples/london.txt 3=examples/lisbon.txt\n\nThe day after: seatdesk run --set examples/summer.ssim --limits examples/limits.txt --first 2024-07-01 --days 31 --after examples/journal.txt --today 2024-06-21 --journal journal-2.txt examples/london-2.txt\n\nScripts to which requests were added: seatdesk run --set examples/summer.ssim --limits examples/limits.txt --first 2024-07-01 --days 31 --resume examples/journal.txt --today 2024-06-20 --journal journal.txt examples/london.txt examples/lisbon.txt\n\nA wrong line stops no desk: seatdesk run --set examples/summer.ssim --limits examples/limits.txt --first 2024-07-01 --days 31 --today 2024-06-20 --journal journal.txt --refused refused.txt examples/london.txt examples/lisbon.txt";
+
 pub(super) const SERVE: &Described = &Described {
     name: "serve",
     about: "Stays open for desks: answers each line of a message once it is on the disk",
-    more: "Type the lines of a message, as in a script: the reply to each segment line stands below it. ? LZ601Q27JUL LHRKEF shows the seats\nthat are left in a class. The end of the input, or ?BYE, ends the journal; a host that is killed loses no reply that it gave,\nand goes on from its journal when it is started again.\n\nExample: seatdesk serve --set examples/summer.ssim --limits examples/limits.txt --first 2024-07-01 --days 31 --today 2024-06-20 --journal journal.txt --desk -\n\nTwo desks and a manager on pipes: seatdesk serve --set examples/summer.ssim --limits examples/limits.txt --first 2024-07-01 --days 31 --today 2024-06-20 --journal journal.txt --desk 1=london.in:london.out --desk 2=lisbon.in:lisbon.out --manager m.in:m.out\n\nOne stream of lines for all desks: seatdesk serve --set examples/summer.ssim --limits examples/limits.txt --first 2024-07-01 --days 31 --journal journal.txt --feed -",
-    horizon: HORIZON,
+    over_horizon: true,
     arguments: &[
         Optional("today", "DATE", SERVED_DAY_HELP),
         Wanted("journal", "JOURNAL", SERVED_HELP),
@@ -130,30 +130,36 @@ pub(super) const SERVE: &Described = &Described {
     ],
 };
 
+pub(super) const SERVE_MORE: &str =
+    "Type the lines of a message, as in a script: the reply to each segment line stands below it. ? LZ601Q27JUL LHRKEF shows the seats\nthat are left in a class. The end of the input, or ?BYE, ends the journal; a host that is killed loses no reply that it gave,\nand goes on from its journal when it is started again.\n\nExample: seatdesk serve --set examples/summer.ssim --limits examples/limits.txt --first 2024-07-01 --days 31 --today 2024-06-20 --journal journal.txt --desk -\n\nTwo desks and a manager on pipes: seatdesk serve --set examples/summer.ssim --limits examples/limits.txt --first 2024-07-01 --days 31 --today 2024-06-20 --journal journal.txt --desk 1=london.in:london.out --desk 2=lisbon.in:lisbon.out --manager m.in:m.out\n\nOne stream of lines for all desks: seatdesk serve --set examples/summer.ssim --limits examples/limits.txt --first 2024-07-01 --days 31 --journal journal.txt --feed -";
+
 pub(super) const SEAL: &Described = &Described {
     name: "seal",
     about: "Writes the seal of a journal that audit accepts, which says what the journal belongs to",
-    more: "The seal is JOURNAL.seal beside JOURNAL. Every command that replays JOURNAL compares it, and audit --sealed wants it.\n\nExample: seatdesk seal --set examples/summer.ssim --limits examples/limits.txt --first 2024-07-01 --days 31 journal.txt",
-    horizon: HORIZON,
+    over_horizon: true,
     arguments: &[WantedWord("journal", "JOURNAL", SEALED_JOURNAL_HELP)],
 };
+
+pub(super) const SEAL_MORE: &str =
+    "The seal is JOURNAL.seal beside JOURNAL. Every command that replays JOURNAL compares it, and audit --sealed wants it.\n\nExample: seatdesk seal --set examples/summer.ssim --limits examples/limits.txt --first 2024-07-01 --days 31 journal.txt";
 
 pub(super) const RECOVER: &Described = &Described {
     name: "recover",
     about: "Cuts a journal that was left open back to its right lines, writes its END line, and says so",
-    more: "A torn line behind the right ones is kept beside JOURNAL, as JOURNAL.torn-1, and cut. A whole line that is not right is refused\nas audit --open refuses it: it may be the wrong set or limits. With --cut it is kept and cut too, with all behind it, where\nthat is no more than a crash leaves: 4096 lines and 256 KiB.\n\nExample: seatdesk recover --set examples/summer.ssim --limits examples/limits.txt --first 2024-07-01 --days 31 journal.txt",
-    horizon: HORIZON,
+    over_horizon: true,
     arguments: &[
         Flag("cut", CUT_HELP),
         WantedWord("journal", "JOURNAL", LEFT_JOURNAL_HELP),
     ],
 };
 
+pub(super) const RECOVER_MORE: &str =
+    "A torn line behind the right ones is kept beside JOURNAL, as JOURNAL.torn-1, and cut. A whole line that is not right is refused\nas audit --open refuses it: it may be the wrong set or limits. With --cut it is kept and cut too, with all behind it, where\nthat is no more than a crash leaves: 4096 lines and 256 KiB.\n\nExample: seatdesk recover --set examples/summer.ssim --limits examples/limits.txt --first 2024-07-01 --days 31 journal.txt";
+
 pub(super) const CARRY: &Described = &Described {
     name: "carry",
     about: "Carries the live bookings of a journal, or of several, to another season, into a new journal, and reports on each of them",
-    more: "JOURNAL is sold from no more: its seal says that it was carried, ahead of the first byte of NEW. A carry that was killed between the\ntwo is finished by the same command, given again. Where a leg of the new season has fewer seats than are held no file is written, and\na line of standard output, OVER, says so of each such leg.\n\nExample: seatdesk carry --from examples/summer.toml --to examples/august.toml --today 2024-07-20 --journal august.txt journal.txt\n\nThe report alone, of who would lose seats: seatdesk carry --from examples/summer.toml --to examples/august.toml --today 2024-07-20 --journal august.txt --displace --dry-run journal.txt\n\nOthers go to another flight, and some keep their seats first: seatdesk carry --from examples/summer.toml --to examples/august.toml --today 2024-07-20 --journal august.txt --protect protected.txt --order first.txt --displace journal.txt\n\nJournals of hosts that have different flights, in this order: seatdesk carry --from examples/summer.toml --to examples/august.toml --today 2024-07-20 --journal august.txt journal-1.txt journal-2.txt\n\nThe journal of the first of four hosts that have different flights from now on; the others have august.2 to august.4: seatdesk carry --from examples/summer.toml --to examples/august.toml --today 2024-07-20 --journal august.1 --shard 1/4 journal.txt",
-    horizon: &[],
+    over_horizon: false,
     arguments: &[
         Wanted("from", "SEASON", FROM_SEASON_HELP),
         Wanted("to", "SEASON", TO_SEASON_HELP),
@@ -172,3 +178,6 @@ pub(super) const CARRY: &Described = &Described {
         Words("others", "OTHER", OTHERS_CARRIED_HELP),
     ],
 };
+
+pub(super) const CARRY_MORE: &str =
+    "JOURNAL is sold from no more: its seal says that it was carried, ahead of the first byte of NEW. A carry that was killed between the\ntwo is finished by the same command, given again. Where a leg of the new season has fewer seats than are held no file is written, and\na line of standard output, OVER, says so of each such leg.\n\nExample: seatdesk carry --from examples/summer.toml --to examples/august.toml --today 2024-07-20 --journal august.txt journal.txt\n\nThe report alone, of who would lose seats: seatdesk carry --from examples/summer.toml --to examples/august.toml --today 2024-07-20 --journal august.txt --displace --dry-run journal.txt\n\nOthers go to another flight, and some keep their seats first: seatdesk carry --from examples/summer.toml --to examples/august.toml --today 2024-07-20 --journal august.txt --protect protected.txt --order first.txt --displace journal.txt\n\nJournals of hosts that have different flights, in this order: seatdesk carry --from examples/summer.toml --to examples/august.toml --today 2024-07-20 --journal august.txt journal-1.txt journal-2.txt\n\nThe journal of the first of four hosts that have different flights from now on; the others have august.2 to august.4: seatdesk carry --from examples/summer.toml --to examples/august.toml --today 2024-07-20 --journal august.1 --shard 1/4 journal.txt";

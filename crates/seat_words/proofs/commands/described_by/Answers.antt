@@ -1,5 +1,5 @@
 use Rattle.std.proofs.Common.{ap, sym}
-use Rattle.seat_words.specs.CommandLine.{app_named, audit_app, avs_app, bookings_app, carry_app, changes_app, check_app, compare_app, cover_app, explain_app, flights_app, history_app, horizon_app, ladder_app, loads_app, pickup_app, reconcile_app, recover_app, replies_app, rooms_app, route_app, run_app, seal_app, season_app, serve_app, told_app, waiting_app, why_app}
+use Rattle.seat_words.specs.CommandLine.{app_named, audit_app, avs_app, bookings_app, carry_app, changes_app, check_app, compare_app, cover_app, explain_app, flights_app, history_app, ladder_app, loads_app, pickup_app, reconcile_app, recover_app, replies_app, rooms_app, route_app, run_app, seal_app, season_app, serve_app, told_app, waiting_app, why_app}
 use Rattle.seat_words.proofs.commands.described_by.Goals as goal
 
 pub returns-in-Ladder : goal.returns-in-Ladder
@@ -15,23 +15,23 @@ unfolding flights_app
 returns-in-Flights c = sym (ap app_named c.in-Flights.is)
 
 pub returns-in-Cover : goal.returns-in-Cover
-unfolding cover_app horizon_app
+unfolding cover_app
 returns-in-Cover c = sym (ap app_named c.in-Cover.is)
 
 pub returns-in-Rooms : goal.returns-in-Rooms
-unfolding rooms_app horizon_app
+unfolding rooms_app
 returns-in-Rooms c = sym (ap app_named c.in-Rooms.is)
 
 pub returns-in-Loads : goal.returns-in-Loads
-unfolding loads_app horizon_app
+unfolding loads_app
 returns-in-Loads c = sym (ap app_named c.in-Loads.is)
 
 pub returns-in-Run : goal.returns-in-Run
-unfolding run_app horizon_app
+unfolding run_app
 returns-in-Run c = sym (ap app_named c.in-Run.is)
 
 pub returns-in-Serve : goal.returns-in-Serve
-unfolding serve_app horizon_app
+unfolding serve_app
 returns-in-Serve c = sym (ap app_named c.in-Serve.is)
 
 pub returns-in-Route : goal.returns-in-Route
@@ -39,27 +39,27 @@ unfolding route_app
 returns-in-Route c = sym (ap app_named c.in-Route.is)
 
 pub returns-in-Bookings : goal.returns-in-Bookings
-unfolding bookings_app horizon_app
+unfolding bookings_app
 returns-in-Bookings c = sym (ap app_named c.in-Bookings.is)
 
 pub returns-in-Waiting : goal.returns-in-Waiting
-unfolding waiting_app horizon_app
+unfolding waiting_app
 returns-in-Waiting c = sym (ap app_named c.in-Waiting.is)
 
 pub returns-in-Pickup : goal.returns-in-Pickup
-unfolding pickup_app horizon_app
+unfolding pickup_app
 returns-in-Pickup c = sym (ap app_named c.in-Pickup.is)
 
 pub returns-in-History : goal.returns-in-History
-unfolding history_app horizon_app
+unfolding history_app
 returns-in-History c = sym (ap app_named c.in-History.is)
 
 pub returns-in-Avs : goal.returns-in-Avs
-unfolding avs_app horizon_app
+unfolding avs_app
 returns-in-Avs c = sym (ap app_named c.in-Avs.is)
 
 pub returns-in-Reconcile : goal.returns-in-Reconcile
-unfolding reconcile_app horizon_app
+unfolding reconcile_app
 returns-in-Reconcile c = sym (ap app_named c.in-Reconcile.is)
 
 pub returns-in-Compare : goal.returns-in-Compare
@@ -71,31 +71,31 @@ unfolding carry_app
 returns-in-Carry c = sym (ap app_named c.in-Carry.is)
 
 pub returns-in-Changes : goal.returns-in-Changes
-unfolding changes_app horizon_app
+unfolding changes_app
 returns-in-Changes c = sym (ap app_named c.in-Changes.is)
 
 pub returns-in-Audit : goal.returns-in-Audit
-unfolding audit_app horizon_app
+unfolding audit_app
 returns-in-Audit c = sym (ap app_named c.in-Audit.is)
 
 pub returns-in-Seal : goal.returns-in-Seal
-unfolding seal_app horizon_app
+unfolding seal_app
 returns-in-Seal c = sym (ap app_named c.in-Seal.is)
 
 pub returns-in-Recover : goal.returns-in-Recover
-unfolding recover_app horizon_app
+unfolding recover_app
 returns-in-Recover c = sym (ap app_named c.in-Recover.is)
 
 pub returns-in-Replies : goal.returns-in-Replies
-unfolding replies_app horizon_app
+unfolding replies_app
 returns-in-Replies c = sym (ap app_named c.in-Replies.is)
 
 pub returns-in-Told : goal.returns-in-Told
-unfolding told_app horizon_app
+unfolding told_app
 returns-in-Told c = sym (ap app_named c.in-Told.is)
 
 pub returns-in-Why : goal.returns-in-Why
-unfolding why_app horizon_app
+unfolding why_app
 returns-in-Why c = sym (ap app_named c.in-Why.is)
 
 pub returns-in-Explain : goal.returns-in-Explain

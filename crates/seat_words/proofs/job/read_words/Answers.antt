@@ -16,25 +16,25 @@ by_memory A (Err e) h = λ a. h
 
 pub returns-in-Ok-clause-asks : goal.returns-in-Ok-clause-asks
 returns-in-Ok-clause-asks c =
-    subst (λ (line : Option Line). IfOk c.line_of.result (λ asked. IsSomeAnd line (Asks asked.job))) (sym c.in-Ok.ensures.matches.1) c.line_of.ensures.asks
+    subst (λ (line : Option Line). IfOk c.line_of-line.result (λ asked. IsSomeAnd line (Asks asked.job))) (sym c.in-Ok.ensures.matches.1) c.line_of-line.ensures.asks
 
 pub returns-in-Ok-clause-verbose : goal.returns-in-Ok-clause-verbose
 returns-in-Ok-clause-verbose c =
-    subst (λ (ahead : List Row). IfOk c.line_of.result (λ asked. is_verbose ahead (subcommand_of seatdesk_app (texts c.args.words.now)) ≡ asked.is_verbose))
+    subst (λ (ahead : List Row). IfOk c.line_of-line.result (λ asked. is_verbose ahead (subcommand_of seatdesk_app (texts c.args.words.now)) ≡ asked.is_verbose))
     (sym c.in-Ok.ensures.matches.0)
-    (subst (λ (line : Option Line). IfOk c.line_of.result (λ asked. is_verbose (rows_of (found_of c.in-Ok.matches)) line ≡ asked.is_verbose))
-    (sym c.in-Ok.ensures.matches.1) c.line_of.ensures.verbose)
+    (subst (λ (line : Option Line). IfOk c.line_of-line.result (λ asked. is_verbose (rows_of (found_of c.in-Ok.matches)) line ≡ asked.is_verbose))
+    (sym c.in-Ok.ensures.matches.1) c.line_of-line.ensures.verbose)
 
 pub returns-in-Ok-clause-quiet : goal.returns-in-Ok-clause-quiet
 returns-in-Ok-clause-quiet c =
-    subst (λ (ahead : List Row). IfOk c.line_of.result (λ asked. is_quiet ahead (subcommand_of seatdesk_app (texts c.args.words.now)) ≡ asked.is_quiet))
+    subst (λ (ahead : List Row). IfOk c.line_of-line.result (λ asked. is_quiet ahead (subcommand_of seatdesk_app (texts c.args.words.now)) ≡ asked.is_quiet))
     (sym c.in-Ok.ensures.matches.0)
-    (subst (λ (line : Option Line). IfOk c.line_of.result (λ asked. is_quiet (rows_of (found_of c.in-Ok.matches)) line ≡ asked.is_quiet))
-    (sym c.in-Ok.ensures.matches.1) c.line_of.ensures.quiet)
+    (subst (λ (line : Option Line). IfOk c.line_of-line.result (λ asked. is_quiet (rows_of (found_of c.in-Ok.matches)) line ≡ asked.is_quiet))
+    (sym c.in-Ok.ensures.matches.1) c.line_of-line.ensures.quiet)
 
 pub returns-in-Ok-clause-passes : goal.returns-in-Ok-clause-passes
-returns-in-Ok-clause-passes c = by_memory _ c.line_of.result c.line_of.ensures.memory
+returns-in-Ok-clause-passes c = by_memory _ c.line_of-line.result c.line_of-line.ensures.memory
 
 pub returns-in-Ok-clause-kinds : goal.returns-in-Ok-clause-kinds
 returns-in-Ok-clause-kinds c =
-    fails_by_memory c.line_of.result (fault_of seatdesk_app (texts c.args.words.now)) c.in-Ok.ensures.kinds c.line_of.ensures.memory
+    fails_by_memory c.line_of-line.result (fault_of seatdesk_app (texts c.args.words.now)) c.in-Ok.ensures.kinds c.line_of-line.ensures.memory
