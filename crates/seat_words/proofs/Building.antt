@@ -6,7 +6,7 @@ use Rattle.clap.specs.declared.builder.action.ArgAction.TheVariants.{Append}
 use Rattle.clap.specs.declared.builder.arg.Arg.{Arg}
 use Rattle.clap.specs.declared.builder.command.Command.{Command}
 use Rattle.seat_words.specs.declared.commands.arguments.Argument.{Argument}
-use Rattle.seat_words.specs.CommandLine.{IsBuiltAs, IsReadAlike, IsReadAs, rule_as, with_arguments}
+use Rattle.seat_words.specs.CommandLine.{IsBuiltAs, IsReadAs, rule_as, with_arguments}
 
 -- what is added has no global arguments
 or_false : (x y : Bool) → y ≡ false → (x || y) ≡ x
@@ -75,9 +75,3 @@ trailed r one more e has = subst (IsReadAs (record r { trailing_var_arg = true }
   rule = ap (λ (x : Rule). record x { trailing_var_arg = true }) has.rule;
   local = has.local;
 })
-
-pub alike : (a : App) (old new : Command) → IsReadAlike old new → IsBuiltAs a old → IsBuiltAs a new
-alike a old new same was = record {
-  app = same.app ∙ was.app;
-  local = same.local ∙ was.local;
-}

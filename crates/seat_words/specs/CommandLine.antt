@@ -387,8 +387,3 @@ pub record IsBuiltAs (a : App) (c : Command) : Type 0 where
 pub record IsReadAs (r : Rule) (a : Arg) : Type 0 where
   pub rule : rule_of a ≡ r
   pub local : a.global ≡ false
-
--- new is read as old
-pub record IsReadAlike (old new : Command) : Type 0 where
-  pub app : app_of new ≡ app_of old
-  pub local : (fields_of new).has_globals ≡ (fields_of old).has_globals

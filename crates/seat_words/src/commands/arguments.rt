@@ -1,7 +1,7 @@
 //! What a command is made of: its name, its help, its options and its other words.
 ghost use Rattle.std.specs.Prelude.{◌≡◌, IfOk, IsOkAnd};
 ghost use Rattle.clap.specs.Words.{AddsArg, App, Text, new_app};
-ghost use Rattle.seat_words.specs.CommandLine.{IsBuiltAs, IsReadAlike, IsReadAs, app_as, before_its_own, flag, lettered_flag, optional, optional_several, optional_value, optional_values, trailing_values, required_option, required_value, rule_as, with_arguments};
+ghost use Rattle.seat_words.specs.CommandLine.{IsBuiltAs, IsReadAs, app_as, before_its_own, flag, lettered_flag, optional, optional_several, optional_value, optional_values, trailing_values, required_option, required_value, rule_as, with_arguments};
 
 use clap::{Arg, ArgAction, Command};
 use std::alloc::{AllocError, Global};
@@ -134,31 +134,10 @@ fn argument_of<'a>(alloc: Global, argument: &Argument) -> Arg<'a>
 }
 
 // A command with what its help says before and behind its arguments.
-#[tactic(auto, using(crate::proofs::Building::alike))]
 fn named_command<'a>(alloc: Global, name: &'a str, about: &'a str, more: &'a str) -> Command<'a>
     ensures { IsBuiltAs (new_app name.entry.now) result }
 {
-    let command = new_command(alloc, name);
-    let command = with_about(command, about);
-    with_more(command, more)
-}
-
-fn new_command<'a>(alloc: Global, name: &'a str) -> Command<'a>
-    ensures { IsBuiltAs (new_app name.entry.now) result }
-{
-    Command::new(alloc, name)
-}
-
-fn with_about<'a>(command: Command<'a>, about: &'a str) -> Command<'a>
-    ensures { IsReadAlike command.entry result }
-{
-    command.about(about)
-}
-
-fn with_more<'a>(command: Command<'a>, more: &'a str) -> Command<'a>
-    ensures { IsReadAlike command.entry result }
-{
-    command.after_help(more)
+    Command::new(alloc, name).about(about).after_help(more)
 }
 
 // The command with one more argument, if it could be made.
