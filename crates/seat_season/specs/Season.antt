@@ -1,5 +1,5 @@
 -- What a season file says, as a function of the table that its text is.
-use Rattle.std.specs.Prelude.{ℕ, ◌==◌, ◌&&◌, ◌||◌, not, nat_le, if◌then◌else◌, List, length, ℤ, pos, negsuc, Option, Some, None, is_some, option_map, option_and_then, Result, Ok, Err}
+use Rattle.std.specs.Prelude.{ℕ, ◌==◌, ◌&&◌, ◌||◌, nat_le, if◌then◌else◌, List, length, ℤ, pos, negsuc, Option, Some, None, is_some, option_map, option_and_then, Result, Ok, Err}
 use Rattle.toml.specs.Data.{Data, Items, Members, no_members, member, as_str, as_integer, as_datetime, as_array, get_member}
 use Rattle.toml.specs.View.{items_view}
 use Rattle.toml_datetime.specs.declared.datetime.Date.{Date}

@@ -33,19 +33,13 @@ pub(crate) fn next(awaits: Awaits, word: &str) -> Awaits
 fn awaited(word: &str) -> Awaits
     ensures { result ≡ awaited word.now }
 {
-    if word == "--" {
-        return Awaits::Rest;
+    match word {
+        "--" => Awaits::Rest,
+        "--season" => Awaits::Season,
+        "--desk" | "--session" => Awaits::Desk,
+        _ if is_long(word) && !has_sign(word) && !is_flag(word) => Awaits::Value,
+        _ => Awaits::Nothing,
     }
-    if word == "--season" {
-        return Awaits::Season;
-    }
-    if word == "--desk" || word == "--session" {
-        return Awaits::Desk;
-    }
-    if is_long(word) && !has_sign(word) && !is_flag(word) {
-        return Awaits::Value;
-    }
-    Awaits::Nothing
 }
 
 /// Whether no option awaits this word, and it may be one.

@@ -85,7 +85,9 @@ fn is_over(command: &str) -> bool
 pub fn season_named<'a>(words: &[&'a str]) -> Option<&'a str>
     ensures { option_map (λ season. season.now) result ≡ season_named (texts words.now) }
 {
-    let line = line_of(words)?;
+    let Some(line) = line_of(words) else {
+        return None;
+    };
     if is_over(line.command) {
         season_behind(line.behind)
     } else {
@@ -97,7 +99,9 @@ pub fn season_named<'a>(words: &[&'a str]) -> Option<&'a str>
 pub fn beside_season(words: &[&str]) -> Option<&'static str>
     ensures { option_map (λ option. option.now) result ≡ beside_season (texts words.now) }
 {
-    let line = line_of(words)?;
+    let Some(line) = line_of(words) else {
+        return None;
+    };
     beside_in(line.behind)
 }
 

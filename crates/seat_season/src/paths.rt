@@ -11,7 +11,10 @@ pub fn path_of(alloc: Global, folder: Option<&str>, name: &str) -> Result<String
     if begins_with(b'/', name) {
         return String::from_str(alloc, name);
     }
-    guarded(alloc, in_folder(alloc, folder, name)?)
+    let Ok(path) = in_folder(alloc, folder, name) else {
+        return Err(AllocError);
+    };
+    guarded(alloc, path)
 }
 
 fn in_folder(alloc: Global, folder: Option<&str>, name: &str) -> Result<String, AllocError>

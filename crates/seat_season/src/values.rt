@@ -12,7 +12,9 @@ use toml_datetime::{Date, Datetime};
 pub(crate) fn name_of(value: &Value) -> Option<&str>
     ensures { option_map (λ name. name.now) result ≡ name_in (view value.now) }
 {
-    let name = value.as_str()?;
+    let Some(name) = value.as_str() else {
+        return None;
+    };
     if name.is_empty() { None } else { Some(name) }
 }
 
@@ -20,8 +22,13 @@ pub(crate) fn name_of(value: &Value) -> Option<&str>
 pub(crate) fn first_of(value: &Value) -> Option<Date>
     ensures { result ≡ first_in (view value.now) }
 {
-    let date = value.as_datetime()?;
-    of_century(plain_date(date)?)
+    let Some(date) = value.as_datetime() else {
+        return None;
+    };
+    let Some(date) = plain_date(date) else {
+        return None;
+    };
+    of_century(date)
 }
 
 fn plain_date(date: &Datetime) -> Option<Date>
@@ -64,6 +71,9 @@ fn days_number(number: i64) -> Option<u16>
 pub(crate) fn desks_of(value: &Value) -> Option<&[Value]>
     ensures { option_map (λ names. items_view names.now) result ≡ desks_in (view value.now) }
 {
-    let names = value.as_array()?.as_slice();
+    let Some(names) = value.as_array() else {
+        return None;
+    };
+    let names = names.as_slice();
     if are_desks(names) { Some(names) } else { None }
 }

@@ -4,7 +4,7 @@ ghost use Rattle.std.specs.Prelude.{◌≡◌, ◌≤◌, ◌+◌, ◌++◌, ◌
 ghost use Rattle.seat_season.specs.Folders.{path_in};
 ghost use Rattle.seat_season.specs.Line.{texts};
 ghost use Rattle.seat_season.specs.Season.{said};
-ghost use Rattle.seat_season.specs.Words.{added_words, begun_words, date_word, digit_of, horizon_words, is_desk_or_place, journal_words, named_desk, named_file, renamed, run_words, seasoned, seasoned_line, session_digit, two, word_of, words_texts};
+ghost use Rattle.seat_season.specs.Words.{added_words, begun_words, date_word, digit_of, horizon_words, is_desk_or_place, journal_words, named_desk, named_file, renamed, run_words, seasoned, seasoned_line, serve_words, session_digit, two, word_of, words_texts};
 ghost use Rattle.toml.specs.View.{items_view};
 
 use crate::awaits::{Awaits, is_place, next};
@@ -39,7 +39,9 @@ fn texts_of(alloc: Global, words: &[String]) -> Result<Vec<&str>, AllocError>
     let mut kept = Vec::new(alloc);
     let mut rest = words;
     while let [word, more @ ..] = rest {
-        keep(&mut kept, word.as_str())?;
+        let Ok(()) = keep(&mut kept, word.as_str()) else {
+            return Err(AllocError);
+        };
         rest = more;
     }
     Ok(kept)
@@ -49,7 +51,9 @@ fn texts_of(alloc: Global, words: &[String]) -> Result<Vec<&str>, AllocError>
 fn keep<'a>(kept: &mut Vec<&'a str>, word: &'a str) -> Result<(), AllocError>
     ensures { OnOk result (texts kept.new.items ≡ texts kept.old.items ++ word.now ∷ []) }
 {
-    kept.push(word)?;
+    let Ok(()) = kept.push(word) else {
+        return Err(AllocError);
+    };
     Ok(())
 }
 
@@ -57,14 +61,19 @@ fn keep<'a>(kept: &mut Vec<&'a str>, word: &'a str) -> Result<(), AllocError>
 fn put(alloc: Global, words: &mut Words, word: &str) -> Result<(), AllocError>
     ensures { OnOk result (words_texts words.new ≡ words_texts words.old ++ word.now ∷ []) }
 {
-    put_own(words, String::from_str(alloc, word)?)
+    let Ok(word) = String::from_str(alloc, word) else {
+        return Err(AllocError);
+    };
+    put_own(words, word)
 }
 
 #[tactic(auto, using(std::proofs::lemmas::List::map_push))]
 fn put_own(words: &mut Words, word: String) -> Result<(), AllocError>
     ensures { OnOk result (words_texts words.new ≡ words_texts words.old ++ string_bytes word ∷ []) }
 {
-    words.words.push(word)?;
+    let Ok(()) = words.words.push(word) else {
+        return Err(AllocError);
+    };
     Ok(())
 }
 
@@ -74,7 +83,9 @@ fn put_all(alloc: Global, words: &mut Words, more: &[&str]) -> Result<(), AllocE
 {
     let mut rest = more;
     while let [word, behind @ ..] = rest {
-        put(alloc, words, word)?;
+        let Ok(()) = put(alloc, words, word) else {
+            return Err(AllocError);
+        };
         rest = behind;
     }
     Ok(())
@@ -132,10 +143,18 @@ fn put_line(
         (option_map (λ f. f.now) around.now.folder) around.now.has_lines
         (texts line.now.ahead.now, (line.now.command.now, texts line.now.behind.now))) }
 {
-    put_all(alloc, words, line.ahead)?;
-    put(alloc, words, line.command)?;
-    put_added(alloc, words, line, season, around)?;
-    put_renamed(alloc, words, season.desks, line.behind)?;
+    let Ok(()) = put_all(alloc, words, line.ahead) else {
+        return Err(AllocError);
+    };
+    let Ok(()) = put(alloc, words, line.command) else {
+        return Err(AllocError);
+    };
+    let Ok(()) = put_added(alloc, words, line, season, around) else {
+        return Err(AllocError);
+    };
+    let Ok(()) = put_renamed(alloc, words, season.desks, line.behind) else {
+        return Err(AllocError);
+    };
     Ok(())
 }
 
@@ -187,10 +206,18 @@ fn put_horizon(
     ensures { OnOk result (words_texts words.new
         ≡ words_texts words.old ++ horizon_words (option_map (λ f. f.now) folder.entry) (said season.now)) }
 {
-    put_path(alloc, words, "--set", folder, season.set)?;
-    put_path(alloc, words, "--limits", folder, season.limits)?;
-    put_first(alloc, words, season.first)?;
-    put_days(alloc, words, season.days)?;
+    let Ok(()) = put_path(alloc, words, "--set", folder, season.set) else {
+        return Err(AllocError);
+    };
+    let Ok(()) = put_path(alloc, words, "--limits", folder, season.limits) else {
+        return Err(AllocError);
+    };
+    let Ok(()) = put_first(alloc, words, season.first) else {
+        return Err(AllocError);
+    };
+    let Ok(()) = put_days(alloc, words, season.days) else {
+        return Err(AllocError);
+    };
     Ok(())
 }
 
@@ -247,24 +274,29 @@ fn put_journal(
     ensures { OnOk result (words_texts words.new ≡ words_texts words.old
         ++ journal_words line.now.command.now (texts line.now.behind.now) has_lines (Some journal.now)) }
 {
-    if line.command == "cover" {
+    match line.command {
+        "cover" => Ok(()),
+        "run" => put_run(alloc, words, line.behind, journal, has_lines),
+        "serve" => put_served(alloc, words, line.behind, journal),
+        _ if has_place(line.behind) => Ok(()),
+        _ => put(alloc, words, journal),
+    }
+}
+
+fn put_served(
+    alloc: Global,
+    words: &mut Words,
+    behind: &[&str],
+    journal: &str,
+) -> Result<(), AllocError>
+    ensures { OnOk result (words_texts words.new ≡ words_texts words.old ++ serve_words (texts behind.now) journal.now) }
+{
+    if has_option("--journal", behind) {
         return Ok(());
     }
-    if line.command == "run" {
-        return put_run(alloc, words, line.behind, journal, has_lines);
-    }
-    if line.command == "serve" {
-        if has_option("--journal", line.behind) {
-            return Ok(());
-        }
-        let Ok(()) = put(alloc, words, "--journal") else {
-            return Err(AllocError);
-        };
-        return put(alloc, words, journal);
-    }
-    if has_place(line.behind) {
-        return Ok(());
-    }
+    let Ok(()) = put(alloc, words, "--journal") else {
+        return Err(AllocError);
+    };
     put(alloc, words, journal)
 }
 
@@ -330,7 +362,9 @@ fn put_renamed(
     let mut rest = behind;
     let mut awaits = Awaits::Nothing;
     while let [word, more @ ..] = rest {
-        put_word(alloc, words, names, awaits, word)?;
+        let Ok(()) = put_word(alloc, words, names, awaits, word) else {
+            return Err(AllocError);
+        };
         awaits = next(awaits, word);
         rest = more;
     }
@@ -382,8 +416,12 @@ fn named_file<'a>(names: &[Value], awaits: Awaits, word: &'a str) -> Option<(&'s
     if !is_desk_or_place(awaits, word) {
         return None;
     }
-    let (name, file) = word.split_once('=')?;
-    let session = digit_of(names, name)?;
+    let Some((name, file)) = word.split_once('=') else {
+        return None;
+    };
+    let Some(session) = digit_of(names, name) else {
+        return None;
+    };
     Some((session, file))
 }
 
