@@ -1,5 +1,5 @@
 -- What the reading of the matches cites.
-use Rattle.std.proofs.Common.{◌≡◌, ◌∙◌, ap, refl, sym, subst, Bool, true, false, Some, None, Option, List, Box, IfOk, Result, is_some, option_map, unwrap_or, [], ◌∷◌, codes}
+use Rattle.std.proofs.Common.{◌≡◌, ◌∙◌, ap, refl, sym, subst, Bool, true, false, Some, None, Option, List, Box, IsSomeAnd, is_some, option_map, unwrap_or, [], ◌∷◌, codes}
 use Rattle.std.proofs.lemmas.Slice.Eq.{bytes_eq-Decides}
 use Rattle.std.specs.Box.{box_value}
 use Rattle.std.specs.Str.{bytes_eq}
@@ -9,7 +9,7 @@ use Rattle.clap.specs.declared.parser.matches.Found.{Found}
 use Rattle.clap.specs.declared.parser.matches.SubCommand.{SubCommand}
 use Rattle.clap.specs.declared.parser.matches.ArgMatches.TheViews.{out-SubCommand}
 use Rattle.clap.proofs.WalkLemmas.{first_value-rows, raw_values-rows}
-use Rattle.seat_words.specs.Jobs.{Asks, has_values, is_answerable, is_complete, is_flagged, all_named, first_named, named_by, values_of, word_of}
+use Rattle.seat_words.specs.Jobs.{Asks, Line, has_values, is_answerable, is_complete, is_flagged, all_named, first_named, named_by, values_of, word_of}
 use Rattle.seat_words.specs.declared.job.Job.{Job}
 use Rattle.seat_words.specs.declared.naming.Named.{Named}
 use Rattle.seat_words.proofs.Found.{cases}
@@ -80,12 +80,15 @@ named_first (x ∷ xs) name command e =
 pub named_right : (name : Text) (command : Named) → Some command ≡ named_by name → word_of command ≡ name
 named_right name command e = named_first all_named name command e
 
--- what is said of its job by its word is so by the name
-pub asked_by_name : {E : Type 0} (name : Text) (rows : List Row) (command : Named) (job : Result Job E)
-    → Some command ≡ named_by name → IfOk job (λ j. Asks j (word_of command, rows))
-    → IfOk job (λ j. Asks j (name, rows))
-asked_by_name name rows command job e asks =
-    subst (λ (word : Text). IfOk job (λ j. Asks j (word, rows))) (named_right name command e) asks
+module _ {Z : Type 0} where
+  -- a job of the word of the command that a line names is one of the line
+  pub asks_of_line : (sub : Option (Box SubCommand Z)) (name : Text) (rows : List Row) (command : Named) (job : Job)
+      → Some name ≡ option_map (λ b. (out-SubCommand (box_value b)).name.now) sub
+      → Some rows ≡ option_map (λ p. p.1) (subcommand_rows sub) → word_of command ≡ name → Asks job (word_of command, rows)
+      → IsSomeAnd (subcommand_rows sub) (Asks job)
+  asks_of_line sub name rows command job e f g asks =
+      subst (λ (found : Option Line). IsSomeAnd found (Asks job)) (sym (line_found sub name rows e f))
+      (subst (λ (word : Text). Asks job (word, rows)) g asks)
 
 abbrev has_all : List Row → Option Named → Bool
 has_all rows found = option_map_or (λ command. has_values (values_of command) rows) found false

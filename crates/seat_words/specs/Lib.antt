@@ -6,3 +6,4 @@ pub mod Jobs
 pub mod NameWords
 pub mod PipeWords
 pub mod SessionWords
+pub mod SeveralWords

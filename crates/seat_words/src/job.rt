@@ -5,6 +5,7 @@ ghost use Rattle.clap.specs.Words.{FailsBy, all_of, fault_of, first_of, found_of
 ghost use Rattle.clap.specs.declared.error.kind.ErrorKind.TheVariants.{ArgumentConflict, InvalidValue, OutOfMemory};
 ghost use Rattle.seat_words.specs.CommandLine.{seatdesk_app};
 ghost use Rattle.seat_words.specs.Jobs.{Asks, HasAny, IsOver, IsShaped, has_values, horizon_values, is_answerable, is_complete, is_flagged, is_quiet, is_switched, is_verbose, several_of, values_of, word_of};
+ghost use Rattle.seat_words.specs.SeveralWords.{HasSeveral};
 ghost use Rattle.seat_words.specs.declared.naming.Named.TheVariants as named;
 
 use super::commands::seatdesk_command;
@@ -210,7 +211,8 @@ fn fault_of_kind(alloc: Global, kind: ErrorKind, message: &str) -> Result<Error,
     fault
 }
 
-#[tactic(auto, using(crate::proofs::Lines::nothing_found, crate::proofs::Lines::line_found))]
+// The job of the command that was named. An error is want of memory.
+#[tactic(auto, using(crate::proofs::Lines::nothing_found, crate::proofs::Lines::line_found, crate::proofs::Lines::asks_of_line))]
 fn job_of<'a>(alloc: Global, matches: &ArgMatches<'a>) -> Result<Job<'a>, AllocError>
     requires { is_answerable (subcommand_rows_of matches.now) ≡ true }
     ensures { IfOk result (λ job. IsSomeAnd (subcommand_rows_of matches.now) (Asks job)) }
@@ -218,37 +220,57 @@ fn job_of<'a>(alloc: Global, matches: &ArgMatches<'a>) -> Result<Job<'a>, AllocE
     let Some((name, inner)) = matches.subcommand() else {
         unreachable!()
     };
-    job_named(alloc, name, inner)
+    let command = command_named(name, inner);
+    let Ok(several) = several_of(alloc, command, inner) else {
+        return Err(AllocError);
+    };
+    Ok(job_of_command(command, inner, several))
 }
 
-// The command that was named.
+// The command of this name.
 #[tactic(auto, using(crate::proofs::Lines::is_named))]
-fn job_named<'a>(alloc: Global, name: &str, matches: &ArgMatches<'a>) -> Result<Job<'a>, AllocError>
+fn command_named(name: &str, matches: &ArgMatches<'_>) -> Named
     requires { is_complete (name.now, rows_of (found_of matches.now)) ≡ true }
-    ensures { IfOk result (λ job. Asks job (name.now, rows_of (found_of matches.now))) }
+    ensures word { word_of result ≡ name.now }
+    ensures values { has_values (values_of result) (rows_of (found_of matches.now)) ≡ true }
 {
     match named_by(name) {
-        Some(command) => job_of_command(alloc, command, matches),
+        Some(command) => command,
         None => unreachable!(),
     }
 }
 
 // The job of a command, with the values that are there of it.
 fn job_of_command<'a>(
+    command: Named,
+    matches: &ArgMatches<'a>,
+    several: Option<Several<'a>>,
+) -> Job<'a>
+    requires values { has_values (values_of command) (rows_of (found_of matches.now)) ≡ true }
+    requires several { HasSeveral (rows_of (found_of matches.now)) (several_of command) several }
+    ensures { Asks result (word_of command, rows_of (found_of matches.now)) }
+{
+    match several {
+        Some(several) => job_of_several(command, matches, several),
+        None => job_of_single_values(command, matches),
+    }
+}
+
+// The values of a command of which there may be more than one, if it may have some.
+fn several_of<'a>(
     alloc: Global,
     command: Named,
     matches: &ArgMatches<'a>,
-) -> Result<Job<'a>, AllocError>
-    requires { has_values (values_of command) (rows_of (found_of matches.now)) ≡ true }
-    ensures { IfOk result (λ job. Asks job (word_of command, rows_of (found_of matches.now))) }
+) -> Result<Option<Several<'a>>, AllocError>
+    ensures { IfOk result (HasSeveral (rows_of (found_of matches.now)) (several_of command)) }
 {
     let Some(id) = several_id(command) else {
-        return Ok(job_of_single_values(command, matches));
+        return Ok(None);
     };
     let Ok(several) = any_values_of(alloc, matches, id) else {
         return Err(AllocError);
     };
-    Ok(job_of_several(command, matches, several))
+    Ok(Some(several))
 }
 
 // By which place or option a command may have several values, if it may.
@@ -268,7 +290,7 @@ fn several_id(command: Named) -> Option<&'static str>
 // The job of a command that has no several values.
 fn job_of_single_values<'a>(command: Named, matches: &ArgMatches<'a>) -> Job<'a>
     requires values { has_values (values_of command) (rows_of (found_of matches.now)) ≡ true }
-    requires single { several_of command ≡ None }
+    requires single { HasSeveral (rows_of (found_of matches.now)) (several_of command) None }
     ensures { Asks result (word_of command, rows_of (found_of matches.now)) }
 {
     match command {
@@ -295,7 +317,7 @@ fn job_of_single_values<'a>(command: Named, matches: &ArgMatches<'a>) -> Job<'a>
 // The job of a command that may have several values, with these.
 fn job_of_several<'a>(command: Named, matches: &ArgMatches<'a>, several: Several<'a>) -> Job<'a>
     requires values { has_values (values_of command) (rows_of (found_of matches.now)) ≡ true }
-    requires several { IsSomeAnd (several_of command) (λ id. HasAny (rows_of (found_of matches.now)) id several) }
+    requires several { HasSeveral (rows_of (found_of matches.now)) (several_of command) (Some several) }
     ensures { Asks result (word_of command, rows_of (found_of matches.now)) }
 {
     match command {
