@@ -1,15 +1,7 @@
-//! Texts, files in memory, journals and inventories on trial: rules told once more, crashes at each call, and where memory or a device is refused.
-//! It is tests alone, and knows of what it tests what its callers know.
+//! Files in memory and journals on trial: crashes at each call, and each way to replay a journal beside the others.
+//! It is tests alone, of what no contract says, and knows of what it tests what its callers know.
 #![tactic(auto)]
 
-#[cfg(test)]
-mod device_tests;
-#[cfg(test)]
-mod failing;
-#[cfg(test)]
-mod growth_tests;
-#[cfg(test)]
-mod inventories;
 #[cfg(test)]
 mod limits;
 #[cfg(test)]
@@ -17,14 +9,8 @@ mod lots;
 #[cfg(test)]
 mod part_tests;
 #[cfg(test)]
-mod plain;
-#[cfg(test)]
 mod replaced_tests;
 #[cfg(test)]
 mod sealed_tests;
 #[cfg(test)]
-mod side_tests;
-#[cfg(test)]
 mod tape_tests;
-#[cfg(test)]
-mod wants;

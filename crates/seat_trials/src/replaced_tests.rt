@@ -1,5 +1,4 @@
 //! A file that is replaced whole, crashed at each call of the replacement.
-use crate::wants::holds_at;
 use airline_base::Failures;
 use memory_disk::{Folder, Fuse};
 use seat_disk::{Replaced, replace_whole};
@@ -52,7 +51,7 @@ pub fn keeps(folder: &Folder, bytes: &[u8], is_kept: bool) -> bool {
 fn leaves_the_old_or_the_new(rt: HostRuntime) -> Result<(), Fail> {
     for (calls, goes_back, is_new) in CRASHES {
         let is_right = leaves(rt.alloc(), calls, goes_back, is_new)?;
-        holds_at(&rt, is_right, "behind", calls as usize);
+        assert!(rt; is_right, "behind {calls} calls");
     }
     Ok(())
 }
@@ -81,7 +80,7 @@ fn is_torn(alloc: Global, row: &Torn) -> Result<bool, AllocError> {
 fn tears_a_file_that_was_not_synced(rt: HostRuntime) -> Result<(), Fail> {
     for at in 0..TEARINGS.len() {
         let is_right = is_torn(rt.alloc(), &TEARINGS[at])?;
-        holds_at(&rt, is_right, "row", at);
+        assert!(rt; is_right, "row {at}");
     }
     Ok(())
 }

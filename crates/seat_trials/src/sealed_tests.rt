@@ -4,7 +4,6 @@ ghost use Rattle.seat_seal.specs.Imprints.{imprint_of};
 ghost use Rattle.seat_seal.specs.Fronts.{front_of};
 
 use crate::replaced_tests::{folder, keeps};
-use crate::wants::holds_at;
 use airline_base::Failures;
 use memory_disk::{Folder, Fuse};
 use seat_seal::{
@@ -232,7 +231,7 @@ fn first_wrong(alloc: Global, row: &Row) -> Result<Option<u64>, AllocError> {
 fn leaves_no_journal_that_its_seal_denies(rt: HostRuntime) -> Result<(), Fail> {
     for at in 0..ROWS.len() {
         let wrong = first_wrong(rt.alloc(), &ROWS[at])?;
-        holds_at(&rt, wrong.is_none(), "row", at);
+        assert!(rt; wrong.is_none(), "row {at}: {wrong:?}");
     }
     Ok(())
 }
