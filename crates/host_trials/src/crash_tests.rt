@@ -13,37 +13,35 @@ use std::test::Fail;
 /// What is left of Y behind each line.
 const ROOMS: [u16; 11] = [3, 1, 1, 1, 0, 0, 0, 0, 0, 0, 0];
 
-/// Behind how many calls the file fails, and how many requests are in a group.
-#[derive(Clone, Copy)]
+/// Behind how many calls the file fails, and how many requests are in a group: how many lines are told, those of each group whose sync
+/// was passed on, and how many bytes are on the disk, and written.
+#[derive(Drop)]
 struct Failing {
     calls: u64,
     size: usize,
+    told: usize,
+    synced: usize,
+    written: usize,
 }
 
 impl Failing {
-    /// How many lines are told: those of each group whose sync was passed on.
-    fn told(self) -> usize {
-        let groups = self.calls.saturating_sub(2) / 2;
-        (groups as usize).saturating_mul(self.size).min(10)
-    }
-
-    /// How many bytes are on the disk.
-    fn synced(self) -> usize {
-        if self.calls < 2 {
-            return 0;
+    fn of(calls: u64, size: usize) -> Failing {
+        let groups = calls.saturating_sub(2) / 2;
+        let told = (groups as usize).saturating_mul(size).min(10);
+        let synced = if calls < 2 { 0 } else { end_of(told) };
+        let written = match calls {
+            1 => 14,
+            _ if calls % 2 == 0 => synced,
+            // Behind an append.
+            _ => end_of(told.saturating_add(size).min(10)),
+        };
+        Failing {
+            calls,
+            size,
+            told,
+            synced,
+            written,
         }
-        end_of(self.told())
-    }
-
-    /// How many bytes were written. An odd number of calls ends behind an append.
-    fn written(self) -> usize {
-        if self.calls % 2 == 0 {
-            return self.synced();
-        }
-        if self.calls < 2 {
-            return 14;
-        }
-        end_of(self.told().saturating_add(self.size).min(10))
     }
 }
 
@@ -82,8 +80,10 @@ fn shows(desk: &mut Desk, told: usize) -> bool {
 }
 
 /// Asks for all over a file that fails: the file. As many lines are told as are to be, and shown, and no more.
-fn fail<R: Wait>(rt: &R, alloc: Global, asked: &[Asked], failing: Failing) -> Result<File, Why> {
-    let grid = grid_of(alloc, 3, 2)?;
+fn fail<R: Wait>(rt: &R, alloc: Global, asked: &[Asked], failing: &Failing) -> Result<File, Why> {
+    let Ok(grid) = grid_of(alloc, 3, 2) else {
+        return Err(Why::Memory);
+    };
     match Desk::open(rt, alloc, grid, 10, failing.calls) {
         Ok(desk) => fail_behind(rt, alloc, desk, asked, failing),
         Err((Why::Device, file)) => Ok(file),
@@ -97,36 +97,38 @@ fn fail_behind<R: Wait>(
     alloc: Global,
     desk: Desk,
     asked: &[Asked],
-    failing: Failing,
+    failing: &Failing,
 ) -> Result<File, Why> {
     let mut desk = desk;
     let told = ask_all(rt, alloc, &mut desk, asked, failing.size);
-    let is_shown = shows(&mut desk, failing.told());
+    let is_shown = shows(&mut desk, failing.told);
     let file = desk.close(rt);
-    if told? != failing.told() {
+    if told? != failing.told {
         return Err(Why::Lines);
     }
     if is_shown { Ok(file) } else { Err(Why::Viewer) }
 }
 
 /// Whether one failure is counted, a file that refused a sync is good for nothing more, and it holds what was written.
-fn is_given_back(file: &File, failing: Failing) -> bool {
-    let is_whole = failing.told() == 10;
+fn is_given_back(file: &File, failing: &Failing) -> bool {
+    let is_whole = failing.told == 10;
     file.failures() == u64::from(!is_whole)
         && file.may_be_used() == (is_whole || failing.calls % 2 == 0)
 }
 
 /// Whether a crash that leaves so many bytes leaves all lines that were told, and those that stand whole in them.
-fn is_found(alloc: Global, file: File, failing: Failing, len: usize) -> Result<bool, Why> {
+fn is_found(alloc: Global, file: File, failing: &Failing, len: usize) -> bool {
     let mut file = file.into_inner();
-    let synced = failing.synced();
-    let is_written = file.bytes() == part(0, failing.written());
-    file.crash(part(synced, len));
-    let Ok(found) = recovered(alloc, grid_of(alloc, 3, 2)?, 10, file.bytes()) else {
-        return Ok(false);
+    let is_written = file.bytes() == part(0, failing.written);
+    file.crash(part(failing.synced, len));
+    let Ok(grid) = grid_of(alloc, 3, 2) else {
+        return false;
+    };
+    let Ok(found) = recovered(alloc, grid, 10, file.bytes()) else {
+        return false;
     };
     let lines = found.core.journal().len();
-    Ok(is_written && (lines, found.len) == kept(len) && failing.told() <= lines)
+    is_written && (lines, found.len) == kept(len) && failing.told <= lines
 }
 
 /// At each byte of what was on its way.
@@ -134,12 +136,12 @@ fn crash_at_each<R: Wait + Abort>(
     rt: &R,
     alloc: Global,
     asked: &[Asked],
-    failing: Failing,
+    failing: &Failing,
 ) -> Result<(), Why> {
-    let Failing { calls, size } = failing;
-    for len in failing.synced()..failing.written().saturating_add(1) {
+    for len in failing.synced..failing.written.saturating_add(1) {
         let file = fail(rt, alloc, asked, failing)?;
-        let is_right = is_given_back(&file, failing) && is_found(alloc, file, failing, len)?;
+        let is_right = is_given_back(&file, failing) && is_found(alloc, file, failing, len);
+        let Failing { calls, size, .. } = failing;
         assert!(rt;
             is_right,
             "{len} bytes in groups of {size}, behind {calls} calls"
@@ -153,7 +155,7 @@ fn finds_what_was_told(rt: HostRuntime) -> Result<(), Fail> {
     let asked = requests_of(rt.alloc(), whole())?;
     for size in [1usize, 3, 4, 10] {
         for calls in 0..23u64 {
-            crash_at_each(&rt, rt.alloc(), asked.as_slice(), Failing { calls, size })?;
+            crash_at_each(&rt, rt.alloc(), asked.as_slice(), &Failing::of(calls, size))?;
         }
     }
     Ok(())

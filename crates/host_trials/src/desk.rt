@@ -16,9 +16,13 @@ pub type File = Fuse<TornTape>;
 
 /// What a viewer finds of class Y, and how many lines it has then seen.
 pub fn look(viewer: &mut Viewer) -> Option<(u16, u32)> {
-    let class = Class::new(b'Y')?;
-    let room = viewer.look(move |sight| sight.room(LEG, class))?;
-    Some((room, viewer.seen()))
+    let Some(class) = Class::new(b'Y') else {
+        return None;
+    };
+    match viewer.look(move |sight| sight.room(LEG, class)) {
+        Some(room) => Some((room, viewer.seen())),
+        None => None,
+    }
 }
 
 fn why(fault: ServeFault) -> Why {
@@ -35,7 +39,9 @@ pub fn answer<R: Wait>(
     serving: &mut Serving<File>,
     asked: &[Asked],
 ) -> Result<usize, Why> {
-    can_ask(serving, asked)?;
+    let Ok(()) = can_ask(serving, asked) else {
+        return Err(Why::Requests);
+    };
     match serving.answer(rt, alloc, asked) {
         Ok(answered) => Ok(answered.lines.len()),
         Err(fault) => Err(why(fault)),
@@ -91,7 +97,7 @@ impl Desk {
     }
 
     /// A desk over an inventory, with the last of its viewers.
-    pub fn seated<R: Wait>(
+    fn seated<R: Wait>(
         rt: &R,
         serving: Serving<File>,
         viewers: Vec<Viewer>,

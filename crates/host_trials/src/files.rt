@@ -1,12 +1,10 @@
 //! An open journal of ten lines, worked by hand, what is found in its beginnings, and inventories of one class.
 use airline_base::{Class, Place};
-use seat_core::{Core, replay};
-use seat_journal::{Entries, Entry, read_journal};
+use seat_journal::{Entry, read_journal};
 use seat_nesting::{Grid, Ladder, Step};
 use seat_recovery::{Recovered, RecoveryFault, recover};
 use seat_serving::Asked;
 use std::alloc::Global;
-use std::process::Abort;
 
 /// Why a test failed, or what it was refused.
 #[derive(Clone, Copy, Debug)]
@@ -95,17 +93,6 @@ pub fn grid_of(alloc: Global, limit: u16, wait: u16) -> Result<Grid, Why> {
     }
 }
 
-/// The inventory of the worked leg that these lines leave.
-pub fn core_after(alloc: Global, lines: &[Entry]) -> Result<Core, Why> {
-    let Ok(opened) = Core::new(alloc, grid_of(alloc, 3, 2)?, 10) else {
-        return Err(Why::Memory);
-    };
-    match replay(alloc, opened, lines) {
-        Ok(core) => Ok(core),
-        Err(_) => Err(Why::Memory),
-    }
-}
-
 /// What is recovered of these bytes over a grid, where a journal has at most so many lines.
 pub fn recovered(
     alloc: Global,
@@ -119,19 +106,18 @@ pub fn recovered(
     recover(alloc, grid, cap, file)
 }
 
-/// The lines of a journal's text.
-pub fn lines_of(alloc: Global, text: &[u8]) -> Result<Entries, Why> {
+/// What a journal's text asks for.
+pub fn requests_of(alloc: Global, text: &[u8]) -> Result<Vec<Asked>, Why> {
     if text.len() > 65_536 {
         return Err(Why::Journal);
     }
-    match read_journal(alloc, text) {
-        Ok(lines) => Ok(lines),
-        Err(_) => Err(Why::Memory),
-    }
+    let Ok(lines) = read_journal(alloc, text) else {
+        return Err(Why::Memory);
+    };
+    asked_by(alloc, lines.as_slice())
 }
 
-/// What these lines ask for.
-pub fn asked_by(alloc: Global, lines: &[Entry]) -> Result<Vec<Asked>, Why> {
+fn asked_by(alloc: Global, lines: &[Entry]) -> Result<Vec<Asked>, Why> {
     let mut asked = Vec::new(alloc);
     for at in 0..lines.len() {
         let line = &lines[at];
@@ -139,20 +125,9 @@ pub fn asked_by(alloc: Global, lines: &[Entry]) -> Result<Vec<Asked>, Why> {
             session: line.session,
             work: line.work,
         };
-        if asked.push(request).is_err() {
+        let Ok(()) = asked.push(request) else {
             return Err(Why::Memory);
-        }
+        };
     }
     Ok(asked)
-}
-
-/// What a journal's text asks for.
-pub fn requests_of(alloc: Global, text: &[u8]) -> Result<Vec<Asked>, Why> {
-    let lines = lines_of(alloc, text)?;
-    asked_by(alloc, lines.as_slice())
-}
-
-/// Stops where this is wrong at a place.
-pub fn holds_at(rt: &impl Abort, is_right: bool, shows: &str, at: usize) {
-    assert!(rt; is_right, "{shows}: {at}");
 }

@@ -1,20 +1,14 @@
-//! Displays and hosts on trial, and journals whose lines are on the disk before anyone is told: what viewers find, threads side by side,
-//! files that are crashed, failed and torn at each call and what is found in them, and where memory is refused.
+//! Hosts on trial, and journals whose lines are on the disk before anyone is told: what viewers find, threads side by side, files that are
+//! failed at each call and crashed at each byte and what is found in them, and where memory is refused.
 //! It is tests alone, of what no contract says, and knows of what it tests what its callers know.
 #![tactic(auto)]
 
 #[cfg(test)]
 mod crash_tests;
 #[cfg(test)]
-mod deed_tests;
-#[cfg(test)]
 mod desk;
 #[cfg(test)]
-mod display_tests;
-#[cfg(test)]
 mod files;
-#[cfg(test)]
-mod going_tests;
 #[cfg(test)]
 mod growth_tests;
 #[cfg(test)]
@@ -25,7 +19,5 @@ mod lots;
 mod meeting;
 #[cfg(test)]
 mod race_tests;
-#[cfg(test)]
-mod turn_tests;
 #[cfg(test)]
 mod working_tests;

@@ -45,19 +45,15 @@ impl Lots {
         Lots { state: seed }
     }
 
-    fn draw(&mut self) -> u32 {
-        self.state = self
-            .state
-            .wrapping_mul(6_364_136_223_846_793_005)
-            .wrapping_add(1_442_695_040_888_963_407);
-        (self.state >> 33) as u32
-    }
-
     pub fn below(&mut self, n: u32) -> u32
         requires { 1 ≤ n }
         ensures { result < n }
     {
-        self.draw() % n
+        self.state = self
+            .state
+            .wrapping_mul(6_364_136_223_846_793_005)
+            .wrapping_add(1_442_695_040_888_963_407);
+        (self.state >> 33) as u32 % n
     }
 
     /// So many of these, at most fifty.

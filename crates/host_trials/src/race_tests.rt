@@ -80,9 +80,10 @@ fn race<R: Threads + Wait + Sync>(
 }
 
 fn open_and_race<R: Threads + Wait + Sync>(rt: &R, alloc: Global) -> Result<(bool, u32), Why> {
-    let asked = requests_of(alloc, REQUESTS)?;
+    let (Ok(asked), Ok(grid)) = (requests_of(alloc, REQUESTS), grid_of(alloc, 999, 0)) else {
+        return Err(Why::Memory);
+    };
     let file = Fuse::new(TornTape::over(Vec::new(alloc)), u64::MAX);
-    let grid = grid_of(alloc, 999, 0)?;
     let Ok((mut serving, mut viewers)) = Serving::begin(rt, alloc, grid, LINES, 1, file) else {
         return Err(Why::Memory);
     };

@@ -2,11 +2,10 @@
 ghost use Rattle.std.specs.Prelude.{◌≡◌, All, IfOk, IsTrue};
 ghost use Rattle.seat_rules.specs.Journal.{FitsCommand};
 
-use crate::deed_tests::gather_all;
 use crate::files::{LEG, grid_of};
 use crate::meeting::Meeting;
 use airline_base::{Class, Code, Locator, Memory};
-use seat_host::{Host, Hosting, Parts, Settled};
+use seat_host::{Host, Hosting, Manager, Parts, Session, Settled, gather};
 use seat_journal::{Command, CommandList};
 use seat_nesting::Grid;
 use seat_workers::{no_faults, run_sessions};
@@ -47,9 +46,30 @@ fn lists_of(alloc: Global, grid: &Grid, command: &Command) -> Result<Vec<Command
 {
     let mut lists = Vec::new(alloc);
     for _ in 0..2u8 {
-        lists.push(list_of(alloc, grid, command)?)?;
+        let Ok(list) = list_of(alloc, grid, command) else {
+            return Err(Memory);
+        };
+        let Ok(()) = lists.push(list) else {
+            return Err(Memory);
+        };
     }
     Ok(lists)
+}
+
+fn gather_all<K: Hosting, R: Wait>(
+    rt: &R,
+    alloc: Global,
+    host: Host<K>,
+    manager: Manager<K>,
+    sessions: Vec<Session<K>>,
+) -> Option<Settled> {
+    match gather(rt, alloc, host, manager, sessions) {
+        Ok(settled) => Some(settled),
+        Err((_, unsettled, _, _)) => {
+            unsettled.into_host().end(rt);
+            None
+        }
+    }
 }
 
 /// Opens a host, runs its sessions, and gathers it.
@@ -64,7 +84,9 @@ fn run<K: Hosting + Send + Sync, R: Threads + Wait + Sync>(
         × (parts.names ≡ K.names) }
     requires lists { All (λ list. All (λ command. FitsCommand parts.grid command) list) lists.now }
 {
-    let (host, mut manager, mut sessions) = Host::<K>::open(rt, alloc, parts).ok()?;
+    let Ok((host, mut manager, mut sessions)) = Host::<K>::open(rt, alloc, parts) else {
+        return None;
+    };
     if sessions.len() != lists.len() || lists.len() > 8 {
         host.end(rt);
         return None;
@@ -92,15 +114,26 @@ fn overlap<R: Threads + Wait + Sync>(
     command: &Command,
     is_mutual: bool,
 ) -> Option<u8> {
-    let grid = grid_of(alloc, 999, 0).ok()?;
-    let lists = lists_of(alloc, &grid, command).ok()?;
-    let parts = Parts::new(rt, alloc, grid, 2, 2).ok()?;
+    let Ok(grid) = grid_of(alloc, 999, 0) else {
+        return None;
+    };
+    let Ok(lists) = lists_of(alloc, &grid, command) else {
+        return None;
+    };
+    let Ok(parts) = Parts::new(rt, alloc, grid, 2, 2) else {
+        return None;
+    };
     let meeting = Meeting::new(is_mutual);
-    let settled = run::<Brand, R>(rt, alloc, parts, lists.as_slice(), &meeting)?;
+    let Some(settled) = run::<Brand, R>(rt, alloc, parts, lists.as_slice(), &meeting) else {
+        return None;
+    };
     if settled.journal.len() != 2 || !meeting.is_held() {
         return None;
     }
-    Some(settled.journal.as_slice().first()?.session)
+    match settled.journal.as_slice().first() {
+        Some(line) => Some(line.session),
+        None => None,
+    }
 }
 
 fn overlap_twice<R: Threads + Wait + Sync>(rt: &R, alloc: Global) -> Option<bool> {
