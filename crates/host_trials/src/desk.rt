@@ -109,18 +109,6 @@ impl Desk {
         }
     }
 
-    /// The file, once the journal is ended in it.
-    pub fn end<R: Wait>(self, rt: &R, alloc: Global) -> Result<File, (Why, File)> {
-        let Desk { serving, viewer: _ } = self;
-        if !serving.is_open() {
-            return Err((Why::Journal, serving.close(rt)));
-        }
-        match serving.end(rt, alloc) {
-            Ok((_, file)) => Ok(file),
-            Err((fault, file)) => Err((why(fault), file)),
-        }
-    }
-
     /// The file of a journal that stays open.
     pub fn close<R: Wait>(self, rt: &R) -> File {
         let Desk { serving, viewer: _ } = self;

@@ -60,26 +60,21 @@ fn told_again<R: Wait>(
     Ok((first, all))
 }
 
-/// Has all answered, and ends: how often a growth was refused. A file that was refused one, and one that is not ended, have what was told.
-fn answer_and_end<R: Wait>(rt: &R, alloc: Global, desk: Desk, asked: &[Asked]) -> Result<u32, Why> {
+/// Has all answered, and leaves the file: how often a growth was refused. The file has what was told, also one that was refused a growth.
+fn answer_and_close<R: Wait>(
+    rt: &R,
+    alloc: Global,
+    desk: Desk,
+    asked: &[Asked],
+) -> Result<u32, Why> {
     let mut desk = desk;
     let answered = told_again(rt, alloc, &mut desk, asked);
-    let (is_ended, file) = match desk.end(rt, alloc) {
-        Ok(file) => (true, file),
-        Err((_, file)) => (false, file),
-    };
-    let (first, all) = answered?;
-    let left = if is_ended {
-        whole()
-    } else {
-        part(0, end_of(all))
-    };
-    if file.into_inner().bytes() != left {
-        return Err(Why::Device);
+    let file = desk.close(rt).into_inner();
+    match answered {
+        Ok((first, all)) if file.bytes() == part(0, end_of(all)) => Ok(u32::from(first < 10)),
+        Ok(_) => Err(Why::Device),
+        Err(why) => Err(why),
     }
-    let of_lines = u32::from(first < 10);
-    let of_end = u32::from(all == 10 && !is_ended);
-    Ok(of_lines.saturating_add(of_end))
 }
 
 fn try_all<R: Wait>(rt: &R, alloc: Global) -> Result<u32, Why> {
@@ -88,10 +83,10 @@ fn try_all<R: Wait>(rt: &R, alloc: Global) -> Result<u32, Why> {
         Err(_) => requests_of(alloc, whole())?,
     };
     match open(rt, alloc) {
-        Ok(desk) => answer_and_end(rt, alloc, desk, asked.as_slice()),
+        Ok(desk) => answer_and_close(rt, alloc, desk, asked.as_slice()),
         Err(Why::Memory | Why::Device) => {
             let desk = open(rt, alloc)?;
-            let more = answer_and_end(rt, alloc, desk, asked.as_slice())?;
+            let more = answer_and_close(rt, alloc, desk, asked.as_slice())?;
             Ok(more.saturating_add(1))
         }
         Err(why) => Err(why),

@@ -80,7 +80,10 @@ fn race<R: Threads + Wait + Sync>(
 }
 
 fn open_and_race<R: Threads + Wait + Sync>(rt: &R, alloc: Global) -> Result<(bool, u32), Why> {
-    let (Ok(asked), Ok(grid)) = (requests_of(alloc, REQUESTS), grid_of(alloc, 999, 0)) else {
+    let Ok(asked) = requests_of(alloc, REQUESTS) else {
+        return Err(Why::Memory);
+    };
+    let Ok(grid) = grid_of(alloc, 999, 0) else {
         return Err(Why::Memory);
     };
     let file = Fuse::new(TornTape::over(Vec::new(alloc)), u64::MAX);

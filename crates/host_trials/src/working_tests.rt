@@ -5,7 +5,7 @@ ghost use Rattle.seat_rules.specs.Journal.{FitsCommand};
 use crate::files::{LEG, grid_of};
 use crate::meeting::Meeting;
 use airline_base::{Class, Code, Locator, Memory};
-use seat_host::{Host, Hosting, Manager, Parts, Session, Settled, gather};
+use seat_host::{Host, Hosting, Parts, Session};
 use seat_journal::{Command, CommandList};
 use seat_nesting::Grid;
 use seat_workers::{no_faults, run_sessions};
@@ -56,30 +56,22 @@ fn lists_of(alloc: Global, grid: &Grid, command: &Command) -> Result<Vec<Command
     Ok(lists)
 }
 
-fn gather_all<K: Hosting, R: Wait>(
-    rt: &R,
-    alloc: Global,
-    host: Host<K>,
-    manager: Manager<K>,
-    sessions: Vec<Session<K>>,
-) -> Option<Settled> {
-    match gather(rt, alloc, host, manager, sessions) {
-        Ok(settled) => Some(settled),
-        Err((_, unsettled, _, _)) => {
-            unsettled.into_host().end(rt);
-            None
-        }
+/// The number of the last line that a session was given; 0 where it has none.
+fn number_of<K: Hosting>(session: &Session<K>) -> u32 {
+    if session.receipts().is_empty() {
+        return 0;
     }
+    session.last().entry().number
 }
 
-/// Opens a host, runs its sessions, and gathers it.
+/// Opens a host and runs its sessions: the numbers of the last lines of sessions 1 and 2.
 fn run<K: Hosting + Send + Sync, R: Threads + Wait + Sync>(
     rt: &R,
     alloc: Global,
     parts: Parts,
     lists: &[CommandList],
     gate: &Meeting,
-) -> Option<Settled>
+) -> Option<(u32, u32)>
     requires parts { (parts.grid ≡ K.grid) × (parts.cap ≡ K.cap) × (parts.book ≡ K.book) × (parts.sessions ≡ K.sessions)
         × (parts.names ≡ K.names) }
     requires lists { All (λ list. All (λ command. FitsCommand parts.grid command) list) lists.now }
@@ -103,17 +95,20 @@ fn run<K: Hosting + Send + Sync, R: Threads + Wait + Sync>(
         gate,
         &mut faults[..lists.len() + 1],
     );
-    gather_all(rt, alloc, host, manager, sessions)
+    host.end(rt);
+    if sessions.len() < 2 {
+        return None;
+    }
+    Some((number_of(&sessions[0]), number_of(&sessions[1])))
 }
 
-/// Runs two sessions that book the first of these lines each, and gives the session of the first line that they book. None where
-/// one was held for too long.
+/// Runs two sessions that book this each, and gives the number of session 1's line. None where one was held for too long, or not both were booked.
 fn overlap<R: Threads + Wait + Sync>(
     rt: &R,
     alloc: Global,
     command: &Command,
     is_mutual: bool,
-) -> Option<u8> {
+) -> Option<u32> {
     let Ok(grid) = grid_of(alloc, 999, 0) else {
         return None;
     };
@@ -124,16 +119,13 @@ fn overlap<R: Threads + Wait + Sync>(
         return None;
     };
     let meeting = Meeting::new(is_mutual);
-    let Some(settled) = run::<Brand, R>(rt, alloc, parts, lists.as_slice(), &meeting) else {
+    let Some((one, two)) = run::<Brand, R>(rt, alloc, parts, lists.as_slice(), &meeting) else {
         return None;
     };
-    if settled.journal.len() != 2 || !meeting.is_held() {
+    if one.saturating_add(two) != 3 || !meeting.is_held() {
         return None;
     }
-    match settled.journal.as_slice().first() {
-        Some(line) => Some(line.session),
-        None => None,
-    }
+    Some(one)
 }
 
 fn overlap_twice<R: Threads + Wait + Sync>(rt: &R, alloc: Global) -> Option<bool> {
@@ -144,9 +136,9 @@ fn overlap_twice<R: Threads + Wait + Sync>(rt: &R, alloc: Global) -> Option<bool
         code: Code::new(b"NN")?,
         seats: 1,
     };
-    let first = overlap(rt, alloc, &command, false)?;
+    let number = overlap(rt, alloc, &command, false)?;
     let any = overlap(rt, alloc, &command, true)?;
-    Some(first == 2 && any <= 2)
+    Some(number == 2 && any <= 2)
 }
 
 #[test]
