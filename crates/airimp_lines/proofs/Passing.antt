@@ -1,5 +1,5 @@
 -- One line of a script, and what remains behind it.
-use Rattle.std.proofs.Common.{◌≡◌, ℕ, ◌+◌, Bool, true, false, cond, not, ◌==◌, List, [], ◌∷◌, ◌++◌, length, Option, Some, None, Result, Ok, Err, refl, sym, ap, subst, ◌∙◌}
+use Rattle.std.proofs.Common.{◌≡◌, ℕ, ◌+◌, Bool, true, false, cond, not, ◌==◌, List, [], ◌∷◌, ◌++◌, length, Option, Some, None, Result, Ok, Err, IsTrue, IsSome, option_to_list, refl, sym, ap, subst, ◌∙◌}
 use Rattle.airline_base.proofs.Tests.{some_is, none_some, nothing}
 use Rattle.airimp_lines.specs.declared.fault.LineFault.{LineFault}
 use Rattle.airimp_lines.specs.declared.fault.ScriptKind.{ScriptKind}
@@ -9,8 +9,9 @@ use Rattle.airimp_lines.specs.declared.segment.Undated.{Undated}
 use Rattle.airimp_lines.specs.Messages.{heading_at, is_passed_over}
 use Rattle.airimp_lines.specs.Reading.{undated_at}
 use Rattle.airimp_lines.specs.Script.{Line, runs_of, segment_lines, IsRequest, AreRequests, AreMessages}
-use Rattle.airimp_lines.specs.Steps.{Message, after_heading, after_segment, step, AreOwn}
+use Rattle.airimp_lines.specs.Steps.{Message, after_heading, after_segment, step, AreOwn, HasRequest}
 use Rattle.std.specs.List.{enumerate_from}
+use Rattle.std.specs.Result.{IsOk}
 use Rattle.airimp_lines.proofs.Headings.{heading_takes, heading_again}
 use Rattle.airimp_lines.proofs.Remaining.{AreLeft, Remain, more_left, less_left, open_message, opened_message, part_more, part_split, same_requests}
 use Rattle.airimp_lines.proofs.Segments.{is_fault}
@@ -149,6 +150,30 @@ none_remain today (Some locator) n (c ∷ text) texts all kind e k =
     let l = less_left today locator (n, c ∷ text) (runs_of (enumerate_from (n + 1) texts)) all (part_split (n + 1) texts) (subst (λ (x : List (List Line)). AreLeft today locator x all) (part_more n c text texts) k) in
     fault_asked today locator n (c ∷ text) f.1 (is_passed_over (c ∷ text)) l.own f.0 f.2 l.asked
 
+-- ---- a line that asks for nothing
+
+pub headed_step : (text : List ℕ) (o : Option (List ℕ)) → (length text == 0) ≡ false → heading_at text ≡ o
+    → step None text ≡ after_heading o
+headed_step [] o some e = absurd cc
+headed_step (c ∷ text) o some e = rw e refl
+
+pub passed_step : (locator text : List ℕ) → (length text == 0) ≡ false → is_passed_over text ≡ true
+    → step (Some locator) text ≡ Ok (Some locator)
+passed_step locator [] some pass = absurd cc
+passed_step locator (c ∷ text) some pass = rw pass refl
+
+pub passed_none : (today : ℕ) (locator : List ℕ) (n : ℕ) (text : List ℕ) → (length text == 0) ≡ false
+    → is_passed_over text ≡ true → AreOwn today (Some locator) (n, text) []
+passed_none today locator n [] some pass = absurd cc
+passed_none today locator n (c ∷ text) some pass =
+    let P : Bool → Type 0 = λ b. AreRequests today locator (cond (not b) ((n, c ∷ text) ∷ []) []) [] in
+    subst P (sym pass) tt
+
+pub fault_step : (locator text : List ℕ) (fault : LineFault) → (length text == 0) ≡ false
+    → is_passed_over text ≡ false → undated_at text ≡ Err fault → step (Some locator) text ≡ Err (kinds.Line fault)
+fault_step locator [] fault some pass e = absurd cc
+fault_step locator (c ∷ text) fault some pass e = rw (pass, e) refl
+
 -- ---- a segment line
 
 pub asked_step : (locator text : List ℕ) (u : Undated) → (length text == 0) ≡ false → is_passed_over text ≡ false
@@ -184,3 +209,22 @@ never_memory None [] e = absurd cc
 never_memory (Some locator) [] e = absurd cc
 never_memory None (c ∷ text) e = opened_memory (heading_at (c ∷ text)) e
 never_memory (Some locator) (c ∷ text) e = other_memory (is_passed_over (c ∷ text)) locator (undated_at (c ∷ text)) e
+
+-- ---- a line's own request, for which room was wanted
+
+has_asked : (today : ℕ) (locator : List ℕ) (line : Line) (q : Request) (next : Message) (b : Bool)
+    (r : Result Undated LineFault)
+    → cond b (gives (Some locator)) (after_segment locator r) ≡ Ok next
+    → AreRequests today locator (cond (not b) (line ∷ []) []) (q ∷ []) → IsTrue (not b) × IsOk r
+has_asked today locator line q next true r e h = absurd h
+has_asked today locator line q next false (Ok u) e h = (refl, refl)
+has_asked today locator line q next false (Err fault) e h = absurd (apart next (kinds.Line fault) (sym e))
+
+pub has_own : (today : ℕ) (message next : Message) (n : ℕ) (text : List ℕ) (o : Option Request)
+    → step message text ≡ Ok next → AreOwn today message (n, text) (option_to_list o) → IsSome o
+    → HasRequest message text
+has_own today message next n text None e h some = absurd cc
+has_own today None next n text (Some q) e h some = absurd cc
+has_own today (Some locator) next n [] (Some q) e h some = absurd cc
+has_own today (Some locator) next n (c ∷ text) (Some q) e h some =
+    has_asked today locator (n, c ∷ text) q next (is_passed_over (c ∷ text)) (undated_at (c ∷ text)) e h

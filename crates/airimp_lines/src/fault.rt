@@ -76,12 +76,12 @@ impl fmt::Display for ScriptKind {
 
     /// The code, Q1 to Q3, and behind Q2 the line's own.
     fn fmt<W: fmt::Write>(&self, f: &mut fmt::Formatter<W>) -> fmt::Result {
-        let kind = *self;
-        match kind {
-            ScriptKind::Locator => f.write_str("Q1"),
-            ScriptKind::Line(fault) => write!(f, "Q2 {fault}"),
-            ScriptKind::Memory => f.write_str("Q3"),
-        }
+        let code = match *self {
+            ScriptKind::Locator => "Q1",
+            ScriptKind::Line(fault) => return write!(f, "Q2 {fault}"),
+            ScriptKind::Memory => "Q3",
+        };
+        f.write_str(code)
     }
 }
 

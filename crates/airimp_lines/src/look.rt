@@ -73,7 +73,7 @@ fn pair_look(bytes: &[u8]) -> Option<UndatedLook>
     ensures value { result ≡ pair_look_at bytes.now }
     ensures day { IfSome result (λ look. IsSomeDay look.day look.month) }
 {
-    let Some(((day, month), rest)) = day_of(bytes) else {
+    let Some((date, rest)) = day_of(bytes) else {
         return None;
     };
     let Some(rest) = byte_of(b' ', rest) else {
@@ -90,8 +90,8 @@ fn pair_look(bytes: &[u8]) -> Option<UndatedLook>
     }
     Some(UndatedLook {
         flight: None,
-        day,
-        month,
+        day: date.0,
+        month: date.1,
         board,
         off,
     })
@@ -108,7 +108,7 @@ fn class_look(bytes: &[u8]) -> Option<UndatedLook>
     let Some((number, rest)) = numeral_of(rest, 4) else {
         return None;
     };
-    let Some(((suffix, class), rest)) = letters_of(rest) else {
+    let Some((letters, rest)) = letters_of(rest) else {
         return None;
     };
     let Some(pair) = pair_look(rest) else {
@@ -118,8 +118,8 @@ fn class_look(bytes: &[u8]) -> Option<UndatedLook>
         flight: Some(FlightClass {
             airline,
             number,
-            suffix,
-            class,
+            suffix: letters.0,
+            class: letters.1,
         }),
         day: pair.day,
         month: pair.month,

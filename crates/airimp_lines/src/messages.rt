@@ -34,7 +34,9 @@ pub(crate) fn is_passed_over(text: &[u8]) -> bool
 fn after_address(bytes: &[u8]) -> Option<&[u8]>
     ensures { option_map (λ x. x.now) result ≡ address_at bytes.now }
 {
-    let (front, rest) = bytes.split_at_checked(5)?;
+    let Some((front, rest)) = bytes.split_at_checked(5) else {
+        return None;
+    };
     if is_address(front) { Some(rest) } else { None }
 }
 

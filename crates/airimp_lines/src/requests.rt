@@ -27,6 +27,8 @@ pub fn requests_behind(
     ensures { IfOk result (λ rest. rest ≡ drop done requests.now) }
 {
     let front = done.min(requests.len());
-    let rest = Vec::from_slice(alloc, &requests[front..])?;
+    let Ok(rest) = Vec::from_slice(alloc, &requests[front..]) else {
+        return Err(AllocError);
+    };
     Ok(Requests::from_vec(rest))
 }

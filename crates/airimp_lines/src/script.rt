@@ -62,11 +62,12 @@ fn take_line(
     ensures added { IfOk result (λ _. Adds today message (line, text.now) requests.old requests.new) }
     ensures fault { IfErr result (λ kind. IsStop message text.now kind) }
 {
-    match read_line(message, text, line, today) {
-        Ok(read) => {
-            add_request(requests, read.request)?;
-            Ok(read.message)
-        }
+    let read = match read_line(message, text, line, today) {
+        Ok(read) => read,
+        Err(kind) => return Err(kind),
+    };
+    match add_request(requests, read.request) {
+        Ok(()) => Ok(read.message),
         Err(kind) => Err(kind),
     }
 }
@@ -77,7 +78,9 @@ fn add_request(requests: &mut Requests, request: Option<Request>) -> Result<(), 
     ensures memory { IfErr result (λ kind. (kind ≡ Memory) × IsSome request) }
 {
     if let Some(request) = request {
-        requests.push(request)?;
+        if requests.push(request).is_err() {
+            return Err(ScriptKind::Memory);
+        }
     }
     Ok(())
 }
