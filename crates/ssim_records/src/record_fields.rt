@@ -119,12 +119,13 @@ pub fn until_of(from: Day, text: &[u8]) -> Option<Option<Day>>
     if text == b"00XXX00".as_slice() {
         return Some(None);
     }
-    let to = Day::read(text)?;
-    if from.number() <= to.number() {
-        Some(Some(to))
-    } else {
-        None
+    let Some(to) = Day::read(text) else {
+        return None;
+    };
+    if from.number() > to.number() {
+        return None;
     }
+    Some(Some(to))
 }
 
 /// Monday to Sunday.

@@ -179,46 +179,38 @@ fn leg_fields(text: &[u8], airline: Airline, serial: u32) -> Result<Leg, SetKind
     requires { length text.now ≡ 200 }
     ensures { result ≡ leg_at airline serial text.now }
 {
-    let LegName {
-        suffix,
-        own,
-        number,
-        variation,
-        sequence,
-    } = leg_name(text)?;
-    let LegPeriod {
-        from,
-        to,
-        days,
-        second_week,
-    } = leg_period(text)?;
-    let LegPath {
-        board,
-        std,
-        offset,
-        off,
-        overflow,
-        shift,
-    } = leg_path(text)?;
-    if !is_same(own, airline) {
+    let name = match leg_name(text) {
+        Ok(name) => name,
+        Err(kind) => return Err(kind),
+    };
+    let period = match leg_period(text) {
+        Ok(period) => period,
+        Err(kind) => return Err(kind),
+    };
+    let path = match leg_path(text) {
+        Ok(path) => path,
+        Err(kind) => return Err(kind),
+    };
+    if !is_same(name.own, airline) {
         return Err(SetKind::OtherAirline);
     }
+    let days = period.days;
     Ok(Leg {
         serial,
-        number,
-        suffix,
-        variation,
-        overflow,
-        sequence,
-        from,
-        to,
+        number: name.number,
+        suffix: name.suffix,
+        variation: name.variation,
+        overflow: path.overflow,
+        sequence: name.sequence,
+        from: period.from,
+        to: period.to,
         days,
-        second_week,
-        board,
-        std,
-        offset,
-        off,
-        shift,
+        second_week: period.second_week,
+        board: path.board,
+        std: path.std,
+        offset: path.offset,
+        off: path.off,
+        shift: path.shift,
     })
 }
 

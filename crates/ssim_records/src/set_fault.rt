@@ -1,13 +1,11 @@
 //! Why bytes are no data set.
 ghost use Rattle.std.specs.Prelude.{◌≡◌};
 ghost use Rattle.ssim_records.specs.FaultText.{code_of};
-ghost use Rattle.ssim_records.specs.declared.set_fault.SetKind.TheVariants.{Memory};
 
-use std::alloc::AllocError;
 use std::fmt;
 
 /// What is wrong with a record. Of several faults it is the first in this order.
-#[derive(Clone, Copy, PartialEq, Eq)]
+#[derive(Clone, Copy)]
 pub enum SetKind {
     /// Fewer than 200 bytes are left.
     Short,
@@ -72,14 +70,6 @@ fn code_of(kind: SetKind) -> &'static str
         SetKind::NoTrailer => "S13",
         SetKind::TooLarge => "S14",
         SetKind::Memory => "S15",
-    }
-}
-
-impl From<AllocError> for SetKind {
-    ghost from_gives = { λ _ e. e ≡ Memory };
-
-    fn from(_e: AllocError) -> SetKind {
-        SetKind::Memory
     }
 }
 

@@ -38,7 +38,9 @@ fn take_header(reader: &mut Reader, text: &[u8], most: u32) -> Result<(), SetKin
     ensures taken { Takes reader.old reader.new result (within most reader.old (header_step reader.old text.now)) }
     ensures counted { OnOk result (IsCounted most reader.new) }
 {
-    header(text, reader.count + 1)?;
+    if let Err(kind) = header(text, reader.count + 1) {
+        return Err(kind);
+    }
     if reader.count >= most {
         return Err(SetKind::TooLarge);
     }
@@ -53,7 +55,10 @@ fn take_carrier(reader: &mut Reader, text: &[u8], most: u32) -> Result<(), SetKi
     ensures taken { Takes reader.old reader.new result (within most reader.old (carrier_step reader.old text.now)) }
     ensures counted { OnOk result (IsCounted most reader.new) }
 {
-    let found = carrier(text, reader.count + 1)?;
+    let found = match carrier(text, reader.count + 1) {
+        Ok(found) => found,
+        Err(kind) => return Err(kind),
+    };
     if reader.count >= most {
         return Err(SetKind::TooLarge);
     }
@@ -68,14 +73,19 @@ fn take_leg(reader: &mut Reader, carrier: Carrier, text: &[u8], most: u32) -> Re
     ensures taken { Takes reader.old reader.new result (within most reader.old (leg_step carrier reader.old text.now)) }
     ensures counted { OnOk result (IsCounted most reader.new) }
 {
-    let found = leg(text, carrier.airline, reader.count + 1)?;
+    let found = match leg(text, carrier.airline, reader.count + 1) {
+        Ok(found) => found,
+        Err(kind) => return Err(kind),
+    };
     if reader.count >= most {
         return Err(SetKind::TooLarge);
     }
     let _suffix: Option<u8> = found.suffix;
     let _from: Day = found.from;
     let _board: Station = found.board;
-    reader.legs.push(found)?;
+    let Ok(()) = reader.legs.push(found) else {
+        return Err(SetKind::Memory);
+    };
     reader.count += 1;
     Ok(())
 }
@@ -86,7 +96,9 @@ fn take_segment(reader: &mut Reader, text: &[u8], most: u32) -> Result<(), SetKi
     ensures taken { Takes reader.old reader.new result (within most reader.old (segment_step reader.old text.now)) }
     ensures counted { OnOk result (IsCounted most reader.new) }
 {
-    segment(text, reader.legs.is_empty(), reader.count + 1)?;
+    if let Err(kind) = segment(text, reader.legs.is_empty(), reader.count + 1) {
+        return Err(kind);
+    }
     if reader.count >= most {
         return Err(SetKind::TooLarge);
     }
@@ -107,7 +119,9 @@ fn take_trailer(
         (within most reader.old (trailer_step carrier reader.old text.now)) }
     ensures counted { OnOk result (IsCounted most reader.new) }
 {
-    trailer(text, carrier.airline, reader.count)?;
+    if let Err(kind) = trailer(text, carrier.airline, reader.count) {
+        return Err(kind);
+    }
     if reader.count >= most {
         return Err(SetKind::TooLarge);
     }
