@@ -45,12 +45,16 @@ pub(crate) fn add(
     if let Some(serial) = repeated_leg(legs) {
         return refuse(serial, FlightKind::RepeatedLeg);
     }
-    let list = chain(alloc, legs)?;
+    let Ok(list) = chain(alloc, legs) else {
+        return Err(FlightFault::of_memory());
+    };
     let chained = list.as_slice();
     if let Some(serial) = broken_chain(chained) {
         return refuse(serial, FlightKind::BrokenChain);
     }
-    let plans = schedule(alloc, plan, chained)?;
+    let Ok(plans) = schedule(alloc, plan, chained) else {
+        return Err(FlightFault::of_memory());
+    };
     let scheduled = plans.as_slice();
     add_chain(alloc, plan, legs, scheduled, flown)
 }
@@ -73,7 +77,9 @@ fn add_chain(
     ensures fault { IfErr result (λ fault. IsRefusal fault
         (days_fault plan.now (has_departure flown.old.taken) (length flown.old.flights.items) legs.now chained.now)) }
 {
-    let list = rows(alloc, plan, chained)?;
+    let Ok(list) = rows(alloc, plan, chained) else {
+        return Err(FlightFault::of_memory());
+    };
     let indices = list.as_slice();
     if let Some(fault) = days_fault(plan, flown, legs, chained, indices) {
         return Err(fault);
@@ -81,15 +87,13 @@ fn add_chain(
     let Some((first, _rest)) = chained.split_first() else {
         return Ok(());
     };
-    fly_all(
-        alloc,
-        &mut flown.flights,
-        plan,
-        &first.leg,
-        chained,
-        indices,
-    )?;
-    take_all(&mut flown.taken, first, indices)?;
+    let flights = &mut flown.flights;
+    let Ok(()) = fly_all(alloc, flights, plan, &first.leg, chained, indices) else {
+        return Err(FlightFault::of_memory());
+    };
+    let Ok(()) = take_all(&mut flown.taken, first, indices) else {
+        return Err(FlightFault::of_memory());
+    };
     Ok(())
 }
 

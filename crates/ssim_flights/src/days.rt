@@ -22,11 +22,15 @@ pub(crate) fn days_among(alloc: Global, leg: &Leg, count: u32) -> Result<Days, M
     requires { leg.now.from + count ≤ 84006 }
     ensures { IfOk result (λ days. days ≡ days_among leg.now count) }
 {
-    let mut days = Days::with_room(alloc, count as usize)?;
+    let Ok(mut days) = Days::with_room(alloc, count as usize) else {
+        return Err(Memory);
+    };
     let first = leg.from.number();
     for past in 0..count {
         if leg.operates_on(first + past) {
-            days.push(Day::numbered(first + past))?;
+            let Ok(()) = days.push(Day::numbered(first + past)) else {
+                return Err(Memory);
+            };
         }
     }
     Ok(days)

@@ -42,13 +42,17 @@ pub fn expand(
         (λ fault. IsRefusal fault (first_fault (plan_of set.now.carrier first days most) (itineraries set.now.legs))) }
 {
     let plan = plan_of(&set.carrier, first, days, most);
-    let all = itineraries(alloc, set.legs.as_slice())?;
+    let Ok(all) = itineraries(alloc, set.legs.as_slice()) else {
+        return Err(FlightFault::of_memory());
+    };
     let mut flown = Flown {
         flights: Vec::new(alloc),
         taken: HashSet::new(alloc),
     };
     for legs in all.as_slice() {
-        add(alloc, &plan, legs.as_slice(), &mut flown)?;
+        if let Err(fault) = add(alloc, &plan, legs.as_slice(), &mut flown) {
+            return Err(fault);
+        }
     }
     let Flown {
         flights,

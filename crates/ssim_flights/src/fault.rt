@@ -1,7 +1,7 @@
 //! Why legs are no flights.
 ghost use Rattle.std.specs.Prelude.{◌≡◌};
+ghost use Rattle.ssim_flights.specs.Flown.{memory_fault};
 
-use airline_base::Memory;
 use std::fmt;
 
 /// The first fault of the first itinerary that has one.
@@ -35,12 +35,11 @@ pub enum FlightKind {
     Memory,
 }
 
-impl From<Memory> for FlightFault {
-    ghost use Rattle.ssim_flights.specs.Flown.{memory_fault};
-
-    ghost from_gives = { λ _ fault. fault ≡ memory_fault };
-
-    fn from(_memory: Memory) -> FlightFault {
+impl FlightFault {
+    /// Want of memory.
+    pub(crate) fn of_memory() -> FlightFault
+        ensures { result ≡ memory_fault }
+    {
         FlightFault {
             serial: 0,
             kind: FlightKind::Memory,

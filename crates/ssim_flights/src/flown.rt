@@ -56,7 +56,9 @@ pub(crate) fn take_all(
     ensures { OnOk result (Takes taken.old taken.new (map (departure first.now) rows.now)) }
 {
     for i in rows {
-        take(taken, departure_on(first, *i))?;
+        let Ok(()) = take(taken, departure_on(first, *i)) else {
+            return Err(Memory);
+        };
     }
     Ok(())
 }
@@ -64,7 +66,9 @@ pub(crate) fn take_all(
 fn take(taken: &mut HashSet<Departure>, departure: Departure) -> Result<(), Memory>
     ensures { OnOk result (Takes taken.old taken.new (departure ∷ [])) }
 {
-    taken.insert(departure)?;
+    let Ok(_) = taken.insert(departure) else {
+        return Err(Memory);
+    };
     Ok(())
 }
 
@@ -82,7 +86,9 @@ pub(crate) fn fly_all(
         (flights.new.items ≡ flights.old.items ++ map (flight_on plan.now first.now legs.now) rows.now) }
 {
     for i in rows {
-        let flight = flight_on(alloc, plan, first, legs, *i)?;
+        let Ok(flight) = flight_on(alloc, plan, first, legs, *i) else {
+            return Err(Memory);
+        };
         let _airline: &Airline = &flight.airline;
         let _legs: &DatedLegs = &flight.legs;
         flights.push(flight)?;

@@ -35,8 +35,12 @@ pub(crate) fn itineraries(alloc: Global, legs: &[Leg]) -> Result<LegLists, Memor
     let mut names = IndexSet::new(alloc);
     let mut all = LegLists::new(alloc);
     for leg in legs {
-        let (index, is_new) = names.insert_full(name_of(leg))?;
-        all.place(alloc, index, is_new, *leg)?;
+        let Ok((index, is_new)) = names.insert_full(name_of(leg)) else {
+            return Err(Memory);
+        };
+        let Ok(()) = all.place(alloc, index, is_new, *leg) else {
+            return Err(Memory);
+        };
     }
     Ok(all)
 }

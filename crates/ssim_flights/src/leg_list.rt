@@ -61,7 +61,9 @@ impl LegLists {
         let _from: Day = leg.from;
         let _board: Station = leg.board;
         let mut legs = Legs::new(alloc);
-        legs.push(leg)?;
+        let Ok(()) = legs.push(leg) else {
+            return Err(Memory);
+        };
         self.items.push(legs)?;
         Ok(())
     }
@@ -75,7 +77,9 @@ impl LegLists {
         let _from: Day = leg.from;
         let _board: Station = leg.board;
         let legs = &mut self.items[i];
-        legs.push(leg)?;
+        let Ok(()) = legs.push(leg) else {
+            return Err(Memory);
+        };
         Ok(())
     }
 }

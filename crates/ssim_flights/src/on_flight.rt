@@ -13,7 +13,9 @@ pub(crate) fn place_on(flights: &[Flight], n: u32, wanted: &Wanted) -> Option<Pl
     requires { AreFew flights.now }
     ensures { result ≡ place_on flights.now n wanted.now }
 {
-    let flight = flights.get(n as usize)?;
+    let Some(flight) = flights.get(n as usize) else {
+        return None;
+    };
     place_from(flight, n, 0, flight.legs.as_slice(), wanted)
 }
 

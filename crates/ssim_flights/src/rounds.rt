@@ -39,7 +39,9 @@ impl Rounds {
         requires end { end ≤ 47846 }
         ensures { IfOk result (λ days. days ≡ operating_days leg.now end) }
     {
-        let first = days_among(alloc, leg, round_days(leg.second_week))?;
+        let Ok(first) = days_among(alloc, leg, round_days(leg.second_week)) else {
+            return Err(Memory);
+        };
         let count = count_among(leg, first.as_slice(), days_of_period(leg, end));
         Ok(Rounds {
             leg: *leg,

@@ -23,9 +23,13 @@ pub(crate) fn rows(alloc: Global, plan: &Plan, legs: &[Scheduled]) -> Result<Vec
     let within = first.before(plan.last.number() + 1);
     let begin = ahead.min(count);
     let end = within.min(count).max(begin);
-    let mut list = Vec::with_capacity(alloc, end - begin)?;
+    let Ok(mut list) = Vec::with_capacity(alloc, end - begin) else {
+        return Err(Memory);
+    };
     for i in begin..end {
-        list.push(i)?;
+        let Ok(()) = list.push(i) else {
+            return Err(Memory);
+        };
     }
     Ok(list)
 }
@@ -95,14 +99,19 @@ pub(crate) fn flight_on(
     requires { Reaches legs.now i }
     ensures { IfOk result (λ flight. flight ≡ flight_on plan.now first.now legs.now i) }
 {
-    let mut dated = DatedLegs::with_room(alloc, legs.len())?;
+    let Ok(mut dated) = DatedLegs::with_room(alloc, legs.len()) else {
+        return Err(Memory);
+    };
     for leg in legs {
-        dated.push(DatedLeg {
+        let on_its_day = DatedLeg {
             board: leg.leg.board,
             off: leg.leg.off,
             day: leg.local(i),
             time: leg.time,
-        })?;
+        };
+        let Ok(()) = dated.push(on_its_day) else {
+            return Err(Memory);
+        };
     }
     Ok(Flight {
         airline: plan.airline,

@@ -139,7 +139,9 @@ fn schedule_leg(alloc: Global, plan: &Plan, leg: &Leg) -> Result<Scheduled, Memo
     requires end { plan.now.end ≤ 47846 }
     ensures { IfOk result (λ s. s ≡ scheduled plan.now leg.now) }
 {
-    let days = Rounds::of(alloc, leg, plan.end)?;
+    let Ok(days) = Rounds::of(alloc, leg, plan.end) else {
+        return Err(Memory);
+    };
     let after = days_after(plan.local, leg);
     let operations = Operations::of(days, after);
     let time = local_time(plan.local, leg);

@@ -68,12 +68,16 @@ pub(crate) fn slots_for(alloc: Global, flights: &[Flight]) -> Result<Slots, Memo
     requires { AreFew flights.now }
     ensures { IfOk result (λ held. AreSlotsOf held flights.now 0) }
 {
-    let mut held = empty(alloc, flights.len())?;
+    let Ok(mut held) = empty(alloc, flights.len()) else {
+        return Err(Memory);
+    };
     let mut n = flights.len();
     while n > 0 {
         n -= 1;
         let flight = &flights[n];
-        add_legs(&mut held, flight, n as u32, flight.legs.as_slice())?;
+        let Ok(()) = add_legs(&mut held, flight, n as u32, flight.legs.as_slice()) else {
+            return Err(Memory);
+        };
     }
     Ok(held)
 }
@@ -84,8 +88,12 @@ fn empty(alloc: Global, count: usize) -> Result<Slots, Memory>
     ensures heads { IfOk result (λ held. held.heads.items ≡ replicate (2 * count + 1) 0) }
     ensures entries { IfOk result (λ held. held.entries.items ≡ []) }
 {
-    let heads = no_entries(alloc, 2 * count + 1)?;
-    let entries = Vec::with_capacity(alloc, count)?;
+    let Ok(heads) = no_entries(alloc, 2 * count + 1) else {
+        return Err(Memory);
+    };
+    let Ok(entries) = Vec::with_capacity(alloc, count) else {
+        return Err(Memory);
+    };
     Ok(Slots { heads, entries })
 }
 
@@ -114,7 +122,9 @@ fn add_legs(held: &mut Slots, flight: &Flight, n: u32, legs: &[DatedLeg]) -> Res
         suffix: flight.suffix,
         day: leg.day,
     };
-    add(held, &departure, n)?;
+    let Ok(()) = add(held, &departure, n) else {
+        return Err(Memory);
+    };
     add_legs(held, flight, n, rest)
 }
 
@@ -126,7 +136,9 @@ fn add(held: &mut Slots, departure: &Departure, n: u32) -> Result<(), Memory>
 {
     let slot = slot_of(departure, held.heads.len());
     let next = held.heads[slot];
-    held.entries.push(Entry { flight: n, next })?;
+    let Ok(()) = held.entries.push(Entry { flight: n, next }) else {
+        return Err(Memory);
+    };
     let entry = held.entries.len();
     held.heads[slot] = entry;
     Ok(())

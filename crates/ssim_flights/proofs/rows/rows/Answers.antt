@@ -13,7 +13,7 @@ loop-i-preserved c =
     let held = c.loop-i.invariant in
     let begin = c.min-begin.result in
     let i = c.loop-i.i in (
-      c.in_ok-push.ensures.items ∙ ap (λ (xs : List ℕ). xs ++ i ∷ []) held.0 ∙ sym (range_push begin (i - begin) (i + 1 - begin) i (omega arith) (omega arith)),
+      c.in-Ok-push.ensures.items ∙ ap (λ (xs : List ℕ). xs ++ i ∷ []) held.0 ∙ sym (range_push begin (i - begin) (i + 1 - begin) i (omega arith) (omega arith)),
       omega arith,
       omega arith,
     )

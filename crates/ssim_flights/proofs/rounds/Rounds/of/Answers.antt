@@ -11,12 +11,12 @@ days_among-requires c =
     omega arith
 
 pub count_among-count-requires : goal.count_among-count-requires
-count_among-count-requires c = c.as_slice.ensures ∙ c.in_ok-first.ensures ∙ ap (days_among c.args.leg.now) c.round_days.ensures
+count_among-count-requires c = c.as_slice.ensures ∙ c.in-Ok.ensures ∙ ap (days_among c.args.leg.now) c.round_days.ensures
 
 pub invariant_of-result : goal.invariant_of-result
 invariant_of-result c = record {
   from = c.requires.right.from;
   lasts = last_small c.args.leg.now.to c.args.leg.now.from c.args.end c.requires.right.to c.requires.end;
-  first = c.in_ok-first.ensures ∙ ap (days_among c.args.leg.now) c.round_days.ensures;
+  first = c.in-Ok.ensures ∙ ap (days_among c.args.leg.now) c.round_days.ensures;
   all = c.count_among-count.ensures ∙ ap (λ (n : ℕ). length (days_among c.args.leg.now n)) c.days_of_period.ensures.value;
 }
