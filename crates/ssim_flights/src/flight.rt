@@ -27,7 +27,7 @@ pub struct Flight {
 }
 
 /// What a passenger asks for: a flight from one station, on a local day there, to another.
-#[derive(Clone, Copy, PartialEq, Eq, Hash)]
+#[derive(Clone, Copy, PartialEq, Eq)]
 pub struct Wanted {
     pub airline: Airline,
     pub number: u16,

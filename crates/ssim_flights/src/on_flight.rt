@@ -82,7 +82,9 @@ fn place_to(
     ensures { result ≡ lookup (λ w. same_wanted w wanted.now)
         (ends_from flight.now place.flight place.from first.now place.to legs.now) }
 {
-    let (last, rest) = legs.split_first()?;
+    let Some((last, rest)) = legs.split_first() else {
+        return None;
+    };
     let served = Wanted {
         airline: flight.airline,
         number: flight.number,

@@ -34,7 +34,9 @@ impl<'a> Served<'a> {
     pub fn new(alloc: Global, flights: &'a Flights) -> Result<Served<'a>, Memory>
         ensures { IfOk result (λ served. served ≡ flights.now) }
     {
-        let slots = slots_for(alloc, flights.as_slice())?;
+        let Ok(slots) = slots_for(alloc, flights.as_slice()) else {
+            return Err(Memory);
+        };
         Ok(Served { flights, slots })
     }
 
