@@ -53,9 +53,20 @@ pub fn advices_of(
     let mut advices = Vec::new(alloc);
     let confirmed = confirm_each(counts, queue, &mut advices);
     take_back_each(counts, advices.as_slice());
-    confirmed?;
-    let told = Vec::from_slice(alloc, advices.as_slice())?;
-    Ok(told)
+    let Ok(()) = confirmed else {
+        return Err(Memory);
+    };
+    copied(alloc, advices.as_slice())
+}
+
+/// These advices, in memory for just as many.
+fn copied(alloc: Global, advices: &[Advice]) -> Result<Vec<Advice>, Memory>
+    ensures { IfOk result (λ told. told.items ≡ advices.now) }
+{
+    match Vec::from_slice(alloc, advices) {
+        Ok(told) => Ok(told),
+        Err(_) => Err(Memory),
+    }
 }
 
 /// Takes the seats of each waiting booking that fits, in order, and tells of it. Those that don't are passed over: they
@@ -75,7 +86,10 @@ fn confirm_each(
     let most = queue.as_slice().len();
     let mut at = 0;
     while at < most {
-        at = confirm_next(counts, queue, advices, at)?;
+        let Ok(next) = confirm_next(counts, queue, advices, at) else {
+            return Err(Memory);
+        };
+        at = next;
     }
     Ok(())
 }
@@ -104,7 +118,9 @@ fn confirm_next(
         return Ok(bookings.len());
     };
     let at = from + behind;
-    consider(counts, &bookings[at], advices)?;
+    let Ok(()) = consider(counts, &bookings[at], advices) else {
+        return Err(Memory);
+    };
     Ok(at + 1)
 }
 
@@ -125,7 +141,9 @@ fn consider(counts: &mut Counts, booking: &Booking, advices: &mut Vec<Advice>) -
     if booking.seats > counts.room(booking.place, booking.class) {
         return Ok(());
     }
-    tell(advices, booking)?;
+    let Ok(()) = tell(advices, booking) else {
+        return Err(Memory);
+    };
     counts.take(booking.place, booking.class, booking.seats);
     Ok(())
 }
@@ -161,12 +179,15 @@ pub fn advices_of_rest(
     }
     let left = booking.seats - seats;
     if left <= counts.room(booking.place, booking.class) {
-        told.push(Advice {
+        let advice = Advice {
             number: booking.number,
             place: booking.place,
             class: booking.class,
             seats: left,
-        })?;
+        };
+        let Ok(()) = told.push(advice) else {
+            return Err(Memory);
+        };
     }
     Ok(told)
 }
@@ -176,11 +197,14 @@ fn tell(advices: &mut Vec<Advice>, booking: &Booking) -> Result<(), Memory>
     ensures ok { OnOk result (advices.new.items ≡ advices.old.items ++ advice_of booking.now ∷ []) }
     ensures err { OnErr result (advices.new.items ≡ advices.old.items) }
 {
-    advices.push(Advice {
+    let advice = Advice {
         number: booking.number,
         place: booking.place,
         class: booking.class,
         seats: booking.seats,
-    })?;
-    Ok(())
+    };
+    match advices.push(advice) {
+        Ok(()) => Ok(()),
+        Err(_) => Err(Memory),
+    }
 }

@@ -177,12 +177,15 @@ fn advices_of_queued(
 {
     let mut told = Vec::new(alloc);
     if fits {
-        told.push(Advice {
+        let advice = Advice {
             number,
             place,
             class: command.class,
             seats: command.seats,
-        })?;
+        };
+        let Ok(()) = told.push(advice) else {
+            return Err(Memory);
+        };
     }
     Ok(told)
 }

@@ -16,7 +16,7 @@ loop-at-preserved c =
     let same = c.loop-at.invariant.limits in
     record {
       limits = c.confirm_next.ensures.limits ∙ same;
-      within = c.in_ok-at.ensures.inside;
-      told = told_on before grid t u c.loop-at.advices.items c.confirm_next.new.advices.items (advices_by grid (table_of c.args.counts.now) queue) (drop c.loop-at.at queue) (drop c.in_ok-at.at queue) same c.in_ok-at.ensures.told c.loop-at.invariant.told;
+      within = c.in-Ok.ensures.inside;
+      told = told_on before grid t u c.loop-at.advices.items c.confirm_next.new.advices.items (advices_by grid (table_of c.args.counts.now) queue) (drop c.loop-at.at queue) (drop c.in-Ok.next queue) same c.in-Ok.ensures.told c.loop-at.invariant.told;
       back = back_on before grid t u (table_of c.args.counts.now) c.loop-at.advices.items c.confirm_next.new.advices.items same c.confirm_next.ensures.back c.loop-at.invariant.back;
     }

@@ -15,7 +15,7 @@ returns-clause-told c =
     let P : List Booking → Type 0 = λ xs. b ≡ get_or xs at b in
     told_behind (limits_of counts) (table_of counts) (table_of c.consider.new.counts) c.args.advices.now.items c.consider.new.advices.items
     c.args.queue.now.bookings c.args.from c.in-Some.behind at (at + 1) b
-    c.in-Some.ensures refl refl (subst P c.as_slice-bookings.ensures c.index-bookings-at.is) c.in_ok-consider.ensures.advices c.in_ok-consider.ensures.seats
+    c.in-Some.ensures refl refl (subst P c.as_slice-bookings.ensures c.index-bookings-at.is) c.in-Ok.ensures.advices c.in-Ok.ensures.seats
 
 pub returns-in_default-clause-limits : goal.returns-in_default-clause-limits
 returns-in_default-clause-limits c = refl
@@ -34,12 +34,12 @@ returns-in_default-clause-further c = omega (arith, c.requires, ap length c.as_s
 pub returns-in_default-clause-inside : goal.returns-in_default-clause-inside
 returns-in_default-clause-inside c = omega (arith, ap length c.as_slice-bookings.ensures)
 
-pub returns-in_err-consider-clause-limits : goal.returns-in_err-consider-clause-limits
-returns-in_err-consider-clause-limits c = c.consider.ensures.limits
+pub returns-in_default-consider-clause-limits : goal.returns-in_default-consider-clause-limits
+returns-in_default-consider-clause-limits c = c.consider.ensures.limits
 
-pub returns-in_err-consider-clause-back : goal.returns-in_err-consider-clause-back
-returns-in_err-consider-clause-back c =
-    let same = c.in_err-consider.ensures.same in
+pub returns-in_default-consider-clause-back : goal.returns-in_default-consider-clause-back
+returns-in_default-consider-clause-back c =
+    let same = c.in_default-consider.ensures.same in
     ap (λ (x : Table × List Advice). taken_back (limits_of c.args.counts.now) x.0 x.1) (λ i. (same.1 i, same.0 i))
 
 pub returns-clause-limits : goal.returns-clause-limits
@@ -48,7 +48,7 @@ returns-clause-limits c = c.consider.ensures.limits
 pub returns-clause-back : goal.returns-clause-back
 returns-clause-back c =
     back_behind (limits_of c.args.counts.now) (table_of c.args.counts.now) (table_of c.consider.new.counts) c.args.advices.now.items
-    c.consider.new.advices.items c.index-bookings-at.result c.in_ok-consider.ensures.advices c.in_ok-consider.ensures.seats
+    c.consider.new.advices.items c.index-bookings-at.result c.in-Ok.ensures.advices c.in-Ok.ensures.seats
 
 pub returns-clause-further : goal.returns-clause-further
 returns-clause-further c = omega arith
