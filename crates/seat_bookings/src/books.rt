@@ -32,7 +32,9 @@ impl FlightBook {
         match effect {
             Effect::Holds => self.bookings.reserve(alloc),
             Effect::Waits => {
-                self.bookings.reserve(alloc)?;
+                let Ok(()) = self.bookings.reserve(alloc) else {
+                    return Err(Memory);
+                };
                 self.queue.reserve()
             }
             Effect::Reduces => Ok(()),
@@ -98,7 +100,9 @@ fn reserve_effect(
     ensures same { SameBooks books.old.items books.new.items }
     ensures ok { OnOk result (has_spare_in effect (slice_get books.new.items flight) ≡ true) }
 {
-    open_books(alloc, books, flight)?;
+    let Ok(()) = open_books(alloc, books, flight) else {
+        return Err(Memory);
+    };
     books[flight as usize].reserve(alloc, effect)
 }
 
@@ -161,7 +165,9 @@ fn open_books(alloc: Global, books: &mut Vec<FlightBook>, flight: u32) -> Result
     ensures ok { OnOk result (flight < vec_len books.new) }
 {
     'opening: while books.len() <= flight as usize {
-        open_book(alloc, books)?;
+        let Ok(()) = open_book(alloc, books) else {
+            return Err(Memory);
+        };
     }
     Ok(())
 }
@@ -171,9 +177,12 @@ fn open_book(alloc: Global, books: &mut Vec<FlightBook>) -> Result<(), Memory>
     ensures same { SameBooks books.old.items books.new.items }
     ensures ok { OnOk result (vec_len books.new ≡ vec_len books.old + 1) }
 {
-    books.push(FlightBook {
+    let opened = FlightBook {
         bookings: LiveBookings::new(alloc),
         queue: WaitingList::new(alloc),
-    })?;
+    };
+    let Ok(()) = books.push(opened) else {
+        return Err(Memory);
+    };
     Ok(())
 }

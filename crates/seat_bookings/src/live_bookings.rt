@@ -93,9 +93,14 @@ impl LiveBookings {
         ensures same { self.new.items ≡ self.old.items }
         ensures ok { OnOk result (self.new.spare ≡ true) }
     {
-        self.bookings.reserve()?;
+        let Ok(()) = self.bookings.reserve() else {
+            return Err(Memory);
+        };
         if self.index.is_none() && self.bookings.as_slice().len() >= FEW {
-            self.index = Some(index_of(alloc, self.bookings.as_slice())?);
+            let Ok(index) = index_of(alloc, self.bookings.as_slice()) else {
+                return Err(Memory);
+            };
+            self.index = Some(index);
         }
         make_room(&mut self.index)
     }
@@ -177,9 +182,13 @@ fn key_of(booking: &Booking) -> Key
 fn index_of(alloc: Global, bookings: &[Booking]) -> Result<Box<Numbers>, Memory>
     ensures { IfOk result (λ numbers. IsNumbersOf numbers.value bookings.now) }
 {
-    let numbers = numbers_of(alloc, bookings)?;
-    let index = Box::new(alloc, numbers)?;
-    Ok(index)
+    let Ok(numbers) = numbers_of(alloc, bookings) else {
+        return Err(Memory);
+    };
+    match Box::new(alloc, numbers) {
+        Ok(index) => Ok(index),
+        Err(_) => Err(Memory),
+    }
 }
 
 // The numbers of these bookings by their keys. The last come first: the first of a key stays.
@@ -191,7 +200,9 @@ fn numbers_of(alloc: Global, bookings: &[Booking]) -> Result<Numbers, Memory>
     while at > 0 {
         at -= 1;
         let booking = &bookings[at];
-        put(&mut numbers, key_of(booking), booking.number)?;
+        let Ok(()) = put(&mut numbers, key_of(booking), booking.number) else {
+            return Err(Memory);
+        };
     }
     Ok(numbers)
 }
@@ -199,8 +210,10 @@ fn numbers_of(alloc: Global, bookings: &[Booking]) -> Result<Numbers, Memory>
 fn put(numbers: &mut Numbers, key: Key, number: u32) -> Result<(), Memory>
     ensures { OnOk result (PutsNumber numbers.old numbers.new key (Some number)) }
 {
-    numbers.insert(key, number)?;
-    Ok(())
+    match numbers.insert(key, number) {
+        Ok(_) => Ok(()),
+        Err(_) => Err(Memory),
+    }
 }
 
 // Makes the memory for one more number, where there is an index.
@@ -219,8 +232,10 @@ fn reserve(numbers: &mut Numbers) -> Result<(), Memory>
     ensures same { SameNumbers numbers.old numbers.new }
     ensures spare { OnOk result (0 < spare numbers.new) }
 {
-    numbers.reserve(1)?;
-    Ok(())
+    match numbers.reserve(1) {
+        Ok(()) => Ok(()),
+        Err(_) => Err(Memory),
+    }
 }
 
 // Puts a number into the index, where there is one: it has room.

@@ -55,8 +55,10 @@ impl Row {
         ensures ok { OnOk result (self.new.spare ≡ true) }
     {
         self.close_up();
-        self.all.reserve(1)?;
-        Ok(())
+        match self.all.reserve(1) {
+            Ok(()) => Ok(()),
+            Err(_) => Err(Memory),
+        }
     }
 
     // Gives the room before the first away, where it is more than the bookings have.

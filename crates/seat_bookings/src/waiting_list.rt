@@ -67,9 +67,13 @@ impl WaitingList {
         if self.bookings.as_slice().len() >= MOST {
             return Err(Memory);
         }
-        self.bookings.reserve()?;
-        self.demands.reserve(1)?;
-        Ok(())
+        let Ok(()) = self.bookings.reserve() else {
+            return Err(Memory);
+        };
+        match self.demands.reserve(1) {
+            Ok(()) => Ok(()),
+            Err(_) => Err(Memory),
+        }
     }
 
     /// Adds the booking of a command, whose number is above theirs.

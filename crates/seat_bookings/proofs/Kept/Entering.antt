@@ -1,5 +1,6 @@
 -- A line that sets something on a flight, in the books.
 use Rattle.std.proofs.Common.{◌≡◌, ◌==◌, ℕ, zero, suc, ◌<◌, ◌≤◌, Bool, true, false, List, [], ◌∷◌, length, get_or, slice_get, slice_set, Option, None, Some, if◌then◌else◌, arith, refl, ap, sym, subst, ◌∙◌}
+use Rattle.std.specs.Option.{option_map}
 use Rattle.seat_bookings.proofs.Common.{Booking, FlightBook, Advice, confirmed_each, book_at, queue_of}
 use Rattle.std.proofs.lemmas.Bool.Decides.{nat_tests}
 use Rattle.airline_base.specs.declared.place.Place.{Place}
@@ -9,8 +10,9 @@ use Rattle.seat_journal.specs.declared.entry.SaleChange.{SaleChange}
 use Rattle.seat_journal.specs.declared.entry.Entry.{Entry}
 use Rattle.seat_journal.specs.declared.entry.Work.{Work}
 use Rattle.seat_journal.specs.declared.entry.Work.TheVariants.{Seats, Limit, Sale}
+use Rattle.seat_rules.specs.declared.effect.Effect.{Effect}
 use Rattle.seat_rules.specs.Applying.{applied, changed, effect_of, replied}
-use Rattle.seat_bookings.specs.Books.{bookings_in, queue_in, queue_at, IsEntered, IsQueued}
+use Rattle.seat_bookings.specs.Books.{bookings_in, has_spare, has_spare_in, queue_in, queue_at, IsEntered, IsQueued}
 use Rattle.seat_rules.specs.Flights.{flight_of, is_flight, is_on, place_of}
 
 -- the flight on which a line sets something, which has no place
@@ -25,6 +27,22 @@ sale_on w c is = ap flight_of is
 
 pub sale_nowhere : (w : Work) (c : SaleChange) → w ≡ Sale c → place_of w ≡ None
 sale_nowhere w c is = ap place_of is
+
+-- a command is on the flight of its place
+pub command_on : (w : Work) (c : Command) (p : Place) → w ≡ Seats c → c.place ≡ Some p → flight_of w ≡ Some p.flight
+command_on w c p is at = ap flight_of is ∙ ap (option_map (λ (x : Place). x.flight)) at
+
+-- which has a book, where it has room
+inside : (books : List FlightBook) (f : ℕ) (effect : Effect) → has_spare_in effect (slice_get books f) ≡ true → f < length books
+inside [] f effect has = absurd cc
+inside (b ∷ books) zero effect has = omega arith
+inside (b ∷ books) (suc f) effect has = let below = inside books f effect has in omega (arith, below)
+
+pub spare_inside : (books : List FlightBook) (o : Option Place) (p : Place) (effect : Effect) → o ≡ Some p
+    → has_spare books o effect ≡ true → p.flight < length books
+spare_inside books o p effect at has =
+    let P : Option Place → Type 0 = λ x. has_spare books x effect ≡ true in
+    inside books p.flight effect (subst P at has)
 
 -- advices confirm nothing where there is no booking
 confirmed_none : (advices : List Advice) → confirmed_each [] advices ≡ []
@@ -82,21 +100,17 @@ get_is [] f b lt is = absurd (omega arith)
 get_is (x ∷ books) zero b lt is = ap (λ (y : FlightBook). Some y) (sym is)
 get_is (x ∷ books) (suc f) b lt is = get_is books f b (omega arith) is
 
--- its advices, in the book of its flight
-pub entered_at : (books : List FlightBook) (book new : FlightBook) (e : Entry) (flight : ℕ) → flight_of e.work ≡ Some flight
-    → place_of e.work ≡ None → flight < length books → book ≡ get_or books flight book
-    → new.bookings.items ≡ confirmed_each book.bookings.items e.advices
+-- what a line does, in the book of its flight
+pub entered_in : (books : List FlightBook) (book new : FlightBook) (e : Entry) (flight : ℕ) → flight_of e.work ≡ Some flight
+    → flight < length books → book ≡ get_or books flight book
+    → new.bookings.items ≡ applied book.bookings.items e
     → IsEntered books (slice_set books flight new) e
-entered_at books book new e flight is nowhere lt at confirms = record { each = λ f. cases f (flight == f) refl } where
+entered_in books book new e flight is lt at does = record { each = λ f. cases f (flight == f) refl } where
   before : book_at books flight ≡ book.bookings.items
   before = ap bookings_in (get_is books flight book lt at)
 
   here : book_at (slice_set books flight new) flight ≡ applied (book_at books flight) e
-  here =
-      ap bookings_in (set_here books flight new lt)
-      ∙ (confirms
-      ∙ (sym (ap (λ (l : List Booking). confirmed_each l e.advices) (replied_nowhere book.bookings.items e.number e.work e.reply nowhere))
-      ∙ ap (λ (l : List Booking). applied l e) (sym before)))
+  here = ap bookings_in (set_here books flight new lt) ∙ (does ∙ ap (λ (l : List Booking). applied l e) (sym before))
 
   cases : (f : ℕ) (t : Bool) → (flight == f) ≡ t
       → book_at (slice_set books flight new) f
@@ -109,6 +123,15 @@ entered_at books book new e flight is nowhere lt at confirms = record { each = �
   cases f false e_at =
       let off : is_on f e.work ≡ false = ap (is_flight f) is ∙ e_at in
       rw off (ap bookings_in (set_other books flight f new e_at))
+
+-- its advices alone, where it sets something there
+pub entered_at : (books : List FlightBook) (book new : FlightBook) (e : Entry) (flight : ℕ) → flight_of e.work ≡ Some flight
+    → place_of e.work ≡ None → flight < length books → book ≡ get_or books flight book
+    → new.bookings.items ≡ confirmed_each book.bookings.items e.advices
+    → IsEntered books (slice_set books flight new) e
+entered_at books book new e flight is nowhere lt at confirms =
+    entered_in books book new e flight is lt at
+    (confirms ∙ sym (ap (λ (l : List Booking). confirmed_each l e.advices) (replied_nowhere book.bookings.items e.number e.work e.reply nowhere)))
 
 -- its waiting list
 pub queue_here : (books : List FlightBook) (f : ℕ) (book : FlightBook) → IsQueued books → f < length books

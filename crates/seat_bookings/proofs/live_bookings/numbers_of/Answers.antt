@@ -13,7 +13,7 @@ loop-at-preserved c =
     let booking = c.index-bookings-at.result in
     let next : at ≡ at - 1 + 1 = omega (arith, c.loop-at-test.true) in
     let inside : at - 1 < length bookings = omega (arith, c.loop-at-test.true, c.loop-at.invariant.within) in
-    let puts = subst (λ (k : Key). PutsNumber old new k (Some booking.number)) c.key_of.ensures c.in_ok-put.ensures in
+    let puts = subst (λ (k : Key). PutsNumber old new k (Some booking.number)) c.key_of.ensures c.in-Ok.ensures in
     record {
       within = omega (arith, c.loop-at.invariant.within);
       found = numbers_next old new bookings (at - 1) at booking c.loop-at.invariant.found next inside c.index-bookings-at.is puts;
