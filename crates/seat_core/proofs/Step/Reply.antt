@@ -1,8 +1,9 @@
 -- What a line is answered from.
-use Rattle.std.proofs.Common.{◌≡◌, ◌==◌, ◌&&◌, ℕ, zero, suc, ◌+◌, ◌-◌, ◌<◌, ◌≤◌, Bool, true, false, nat_le, List, [], ◌∷◌, ◌++◌, length, find, Option, Some, None, IfSome, Result, IfOk, codes, if◌then◌else◌, arith, refl, ap, sym, subst, ◌∙◌}
+use Rattle.std.proofs.Common.{◌≡◌, ◌==◌, ◌&&◌, ℕ, zero, suc, ◌+◌, ◌-◌, ◌<◌, ◌≤◌, Bool, true, false, nat_le, List, [], ◌∷◌, ◌++◌, length, find, position, Option, Some, None, IfSome, Result, IfOk, codes, if◌then◌else◌, arith, refl, ap, sym, subst, ◌∙◌}
 use Rattle.std.specs.List.{AllByRecursion}
 use Rattle.std.proofs.lemmas.Result.{IfOk-weaker}
 use Rattle.std.proofs.lemmas.Bool.Decides.{nat_tests}
+use Rattle.std.proofs.lemmas.List.Quantifiers.{position-Some}
 use Rattle.airline_base.specs.declared.place.Place.{Place}
 use Rattle.seat_nesting.specs.Nesting.{Ladders, Table, ByClass, Fits, room, may_wait, ladder_at, each_leg, seats_at}
 use Rattle.seat_nesting.specs.Counting.{Counted, limits_of, table_of, holds, leg_holds}
@@ -31,6 +32,7 @@ use Rattle.seat_rules.proofs.Filters.{all_pass, each_passes, sum_pass}
 use Rattle.seat_rules.proofs.Flight.View.{room_same, may_wait_same, room_of_flight, held_view, bookings_view, each_leg_same}
 use Rattle.seat_bookings.proofs.Kept.Books.{few_in_book, kept_queued, same_answer, SameAnswer}
 use Rattle.seat_bookings.proofs.Waitlists.Queue.{waiting_queue, reduced_holds}
+use Rattle.seat_rules.proofs.Step.Found.{find_some}
 use Rattle.seat_rules.proofs.Passes.Quiet.{room_less}
 use Rattle.seat_rules.proofs.Counters.Shown.{held_waits, cancel_shown, give_none, lacks_replay}
 use Rattle.seat_rules.proofs.Passes.ByTable.{pass_is_by_table, is_for_facts}
@@ -212,6 +214,12 @@ waits_as_found test (x ∷ bs) b found = cases (test x) refl (waits_as_found tes
       let first : ◌≡◌ {A = Option Booking} (Some x) (Some b) = rw m at found in
       rw m (ap (λ (y : Booking). is_waiting y.status) (found_is x b first))
   cases false m rest = let later : find test bs ≡ Some b = rw m at found in rw m (rest later)
+
+-- where a booking was found, one stands
+pub at_inside : (test : Booking → Bool) (xs ys : List Booking) (i : ℕ) → ys ≡ xs → position test xs ≡ Some i → i < length ys
+at_inside test xs ys i same found =
+    let b = find_some test xs i found in
+    subst (λ (l : List Booking). i < length l) (sym same) (position-Some test xs i b.0 found).0
 
 -- a cancellation of held seats: the pass runs over the waiting list, once they are given back
 pub cancel_held : (counts : Counted) (books : List FlightBook) (c : Command) (p : Place) (b : Booking)

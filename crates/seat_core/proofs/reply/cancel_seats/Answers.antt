@@ -4,7 +4,17 @@ use Rattle.std.proofs.lemmas.Result.{IfOk-weaker}
 use Rattle.seat_rules.specs.Bookings.{is_for}
 use Rattle.seat_bookings.specs.Books.{book_at}
 use Rattle.seat_rules.proofs.Step.Found.{find_found, found_at}
+use Rattle.seat_core.proofs.Step.Reply.{at_inside}
 use Rattle.seat_core.proofs.reply.cancel_seats.Goals as goal
+
+pub offset_bounds-book_at-at : goal.offset_bounds-book_at-at
+offset_bounds-book_at-at c =
+    let inside = at_inside (is_for c.args.command.now.locator c.args.place c.args.command.now.class) (book_at c.args.books.now c.args.place.flight) c.book_at.result.now c.args.at c.book_at.ensures c.requires.found in
+    omega (arith, inside)
+
+pub bounds-book_at-at : goal.bounds-book_at-at
+bounds-book_at-at c =
+    at_inside (is_for c.args.command.now.locator c.args.place c.args.command.now.class) (book_at c.args.books.now c.args.place.flight) c.book_at.result.now c.args.at c.book_at.ensures c.requires.found
 
 pub advices_without-requires-clause-found : goal.advices_without-requires-clause-found
 advices_without-requires-clause-found c =
