@@ -177,12 +177,9 @@ fn open_book(alloc: Global, books: &mut Vec<FlightBook>) -> Result<(), Memory>
     ensures same { SameBooks books.old.items books.new.items }
     ensures ok { OnOk result (vec_len books.new ≡ vec_len books.old + 1) }
 {
-    let opened = FlightBook {
+    books.push(FlightBook {
         bookings: LiveBookings::new(alloc),
         queue: WaitingList::new(alloc),
-    };
-    let Ok(()) = books.push(opened) else {
-        return Err(Memory);
-    };
+    })?;
     Ok(())
 }
