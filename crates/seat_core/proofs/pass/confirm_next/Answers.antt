@@ -60,3 +60,30 @@ returns-clause-inside c =
       found_inside (limits_of c.args.counts.now) (table_of c.args.counts.now) c.args.queue.now.bookings c.args.from c.in-Some.behind
           c.in-Some.ensures,
     )
+
+pub overflow_add-at : goal.overflow_add-at
+overflow_add-at c =
+    omega (
+      arith,
+      found_inside (limits_of c.args.counts.now) (table_of c.args.counts.now) c.args.queue.now.bookings c.args.from c.in-Some.behind
+          c.in-Some.ensures,
+      ap length c.as_slice-bookings.ensures,
+    )
+
+pub offset_bounds-bookings-at : goal.offset_bounds-bookings-at
+offset_bounds-bookings-at c =
+    omega (
+      arith,
+      found_inside (limits_of c.args.counts.now) (table_of c.args.counts.now) c.args.queue.now.bookings c.args.from c.in-Some.behind
+          c.in-Some.ensures,
+      ap length c.as_slice-bookings.ensures,
+    )
+
+pub bounds-bookings-at : goal.bounds-bookings-at
+bounds-bookings-at c =
+    omega (
+      arith,
+      found_inside (limits_of c.args.counts.now) (table_of c.args.counts.now) c.args.queue.now.bookings c.args.from c.in-Some.behind
+          c.in-Some.ensures,
+      ap length c.as_slice-bookings.ensures,
+    )

@@ -19,3 +19,10 @@ returns-in-Some-clause-told c =
     let is = cancel_held c.args.counts.now c.args.books.now c.args.command.now c.args.place c.args.booking.now r.flight r.found r.order r.some r.enough (sym c.is_waiting.ensures ∙ c.if-is_waiting.false) in
     let queue = ap (λ (l : List Booking). advices_by (limits_of c.args.counts.now) (given_back (limits_of c.args.counts.now) (table_of c.args.counts.now) c.args.place c.args.command.now.class c.args.command.now.seats) l) c.in-Some.ensures.some in
     IfOk-weaker c.advices_after.result _ _ (λ t e. e ∙ (queue ∙ sym is)) c.advices_after.ensures.told
+
+pub returns-in-None-clause-told : goal.returns-in-None-clause-told
+returns-in-None-clause-told c =
+    let r = c.requires in
+    let is = cancel_held c.args.counts.now c.args.books.now c.args.command.now c.args.place c.args.booking.now r.flight r.found r.order r.some r.enough (sym c.is_waiting.ensures ∙ c.if-is_waiting.false) in
+    let none = ap (λ (l : List Booking). advices_by (limits_of c.args.counts.now) (given_back (limits_of c.args.counts.now) (table_of c.args.counts.now) c.args.place c.args.command.now.class c.args.command.now.seats) l) c.in-None.ensures.none in
+    c.new.ensures.items ∙ (sym none ∙ sym is)

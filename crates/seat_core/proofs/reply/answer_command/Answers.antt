@@ -1,6 +1,8 @@
-use Rattle.std.proofs.Common.{◌≡◌, rules, refl, ap}
+use Rattle.std.proofs.Common.{◌≡◌, ◌≤◌, rules, Option, IfSome, refl, ap, sym, subst}
 use Rattle.seat_nesting.specs.Counting.{limits_of}
+use Rattle.airline_base.specs.declared.place.Place.{Place}
 use Rattle.seat_bookings.specs.Books.{book_at, book_for}
+use Rattle.seat_core.specs.Answers.{CountsFlight}
 use Rattle.seat_rules.specs.Sequential.{state_of}
 use Rattle.seat_rules.proofs.Step.Found.{answers_want, answers_taken, answers_cancel, answers_missing}
 use Rattle.seat_core.proofs.reply.answer_command.Goals as goal
@@ -44,3 +46,19 @@ returns-in-None-found c =
           refl c.in-Cancel.ensures c.in-Some.is c.in-None-found.ensures,
     )
     (search rules)
+
+pub book_seats-requires : goal.book_seats-requires
+book_seats-requires c =
+    let P : Option Place → Type 0 = λ o. IfSome o (λ p. CountsFlight c.args.counts.now c.args.books.now p.flight) in
+    record { flight = subst P c.in-Some.is c.requires.flight }
+
+pub cancel_seats-requires : goal.cancel_seats-requires
+cancel_seats-requires c =
+    let P : Option Place → Type 0 = λ o. IfSome o (λ p. CountsFlight c.args.counts.now c.args.books.now p.flight) in
+    let Q : Option Place → Type 0 = λ o. IfSome o (λ p. p.from ≤ p.to) in
+    record {
+      flight = subst P c.in-Some.is c.requires.flight;
+      found = sym c.in-Some-found-2.ensures;
+      order = subst Q c.in-Some.is c.requires.order;
+      some = c.requires.some;
+    }
