@@ -10,6 +10,7 @@ use Rattle.seat_rules.specs.Applying.{IsOrdered}
 use Rattle.seat_rules.specs.Bookings.{Differs, IsApart}
 use Rattle.seat_rules.specs.Sequential.{confirmed}
 use Rattle.seat_bookings.proofs.Live.Keys.{key_is, is_for_key, apart_keys, number_none}
+use Rattle.seat_rules.proofs.Step.Found.{find_some}
 use Rattle.seat_rules.proofs.Step.Reduced.{IsFirst}
 use Rattle.seat_rules.proofs.Step.Apart.{apart_reduced}
 use Rattle.seat_rules.proofs.Step.Effect.{ordered_reduced}
@@ -211,6 +212,12 @@ number_waiting test (x ∷ xs) (suc i) d o first waits =
         → position (λ (y : Booking). y.number == n) (queue_of (x ∷ xs)) ≡ position test (queue_of (x ∷ xs))
     cases true e rest other apart = rw e (further (λ (y : Booking). y.number == n) x (queue_of xs) apart ∙ (ap (option_map suc) rest ∙ sym (further test x (queue_of xs) other)))
     cases false e rest other apart = rw e rest
+
+-- where a booking was found, one stands
+pub at_inside : (test : Booking → Bool) (xs ys : List Booking) (i : ℕ) → ys ≡ xs → Some i ≡ position test xs → i < length ys
+at_inside test xs ys i same found =
+    let b = find_some test xs i (sym found) in
+    subst (λ (l : List Booking). i < length l) (sym same) (position-Some test xs i b.0 (sym found)).0
 
 pub number_in_queue : (test : Booking → Bool) (xs queue : List Booking) (i : ℕ) (b : Booking) → IsOrdered xs
     → queue ≡ queue_of xs → Some i ≡ position test xs → b ≡ get_or xs i b → is_waiting b.status ≡ true

@@ -1,6 +1,7 @@
 use Rattle.std.proofs.Common.{◌+◌, ◌-◌, refl}
 use Rattle.seat_nesting.specs.Counting.{limits_of, table_of}
-use Rattle.seat_bookings.proofs.Waitlists.Fitting.{next_further, next_nowhere}
+use Rattle.seat_bookings.proofs.Waitlists.Fitting.{most_behind, next_further, next_nowhere, none_next}
+use Rattle.seat_bookings.proofs.Waitlists.Reaching.{reach_within}
 use Rattle.seat_bookings.proofs.fitting.next_fit.Goals as goal
 
 pub reach-requires : goal.reach-requires
@@ -18,3 +19,15 @@ returns-in-None c =
     let counts = c.args.counts.now in
     next_nowhere (limits_of counts) (table_of counts) c.args.bookings.now c.args.demands.now c.args.from c.in-Some.first c.reach.result c.max-start.result
     c.requires.indexed c.in-Some.ensures.first c.requires.within c.reach.ensures c.max-start.ensures c.in-None.ensures
+
+pub returns-in_default : goal.returns-in_default
+returns-in_default c =
+    none_next (limits_of c.args.counts.now) (table_of c.args.counts.now) c.args.bookings.now c.args.demands.now c.args.from c.requires.indexed c.in_default.ensures.first
+
+pub fit_from-requires-clause-within : goal.fit_from-requires-clause-within
+fit_from-requires-clause-within c =
+    reach_within _ c.args.bookings.now c.args.from c.reach.result c.max-start.result c.requires.within c.reach.ensures c.max-start.ensures
+
+pub fit_from-requires-clause-most : goal.fit_from-requires-clause-most
+fit_from-requires-clause-most c =
+    most_behind (limits_of c.args.counts.now) (table_of c.args.counts.now) _ c.args.bookings.now c.args.demands.now c.max-start.result c.requires.indexed c.first_fitting.ensures.most
