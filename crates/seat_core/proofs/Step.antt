@@ -1,2 +1,3 @@
 -- The sequential step.
 pub mod Reply
+pub mod Full

@@ -1,4 +1,4 @@
-use Rattle.std.proofs.Common.{◌≡◌, ◌≤◌, ◌<◌, ◌++◌, ℕ, List, arith, refl, rules, ap, sym, subst, ◌∙◌}
+use Rattle.std.proofs.Common.{◌≤◌, ◌<◌, ◌++◌, List, arith, refl, rules, ap, sym, ◌∙◌}
 use Rattle.seat_journal.specs.declared.entry.Advice.{Advice}
 use Rattle.seat_nesting.specs.Counting.{limits_of, table_of}
 use Rattle.seat_nesting.specs.Nesting.{room}
