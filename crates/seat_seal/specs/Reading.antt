@@ -161,26 +161,31 @@ runs_at bytes = items_in run_at most_runs [] bytes
 
 -- ---- entries
 
+-- the era, the journal and the runs, behind what it belongs to
+abbrev pub sealed_behind : List ℕ → List ℕ → Date → ℕ → List ℕ → Field Belonging
+sealed_behind set limits first days bytes = do
+  journal ← line_at (codes "journal ") journal_at (era_at bytes).1
+  rest ← word_at (codes "END\n") (runs_at journal.1).1
+  Some (
+    record {
+      set = set;
+      limits = limits;
+      first = first;
+      days = days;
+      era = (era_at bytes).0;
+      journal = journal.0;
+      runs = (runs_at journal.1).0;
+    },
+    rest,
+  )
+
 unfoldable pub sealed_at : List ℕ → Field Belonging
 sealed_at bytes = do
   set ← line_at (codes "set ") digest_at bytes
   limits ← line_at (codes "limits ") digest_at set.1
   first ← line_at (codes "first ") date_at limits.1
   days ← line_at (codes "days ") (number_at 366) first.1
-  journal ← line_at (codes "journal ") journal_at (era_at days.1).1
-  rest ← word_at (codes "END\n") (runs_at journal.1).1
-  Some (
-    record {
-      set = set.0;
-      limits = limits.0;
-      first = first.0;
-      days = days.0;
-      era = (era_at days.1).0;
-      journal = journal.0;
-      runs = (runs_at journal.1).0;
-    },
-    rest,
-  )
+  sealed_behind set.0 limits.0 first.0 days.0 days.1
 
 unfoldable pub other_at : List ℕ → Field Imprint
 other_at bytes = do

@@ -15,8 +15,13 @@ use airline_base::fields::{byte_of, digits_of, long_value_of, two_are, two_value
 pub fn digest_at(bytes: &[u8]) -> Option<(Digest, &[u8])>
     ensures { option_map (λ x. (x.0, x.1.now)) result ≡ digest_at bytes.now }
 {
-    let (front, rest) = bytes.split_at_checked(64)?;
-    Some((Digest::read(front)?, rest))
+    let Some((front, rest)) = bytes.split_at_checked(64) else {
+        return None;
+    };
+    match Digest::read(front) {
+        Some(digest) => Some((digest, rest)),
+        None => None,
+    }
 }
 
 #[tactic(auto, unfolding(crate::specs::Reading::number_at))]
@@ -128,7 +133,10 @@ fn state_at(bytes: &[u8]) -> Option<(JournalState, &[u8])>
 {
     match word_of(b" open", bytes) {
         Some(rest) => Some((JournalState::Open, rest)),
-        None => Some((JournalState::Closed, word_of(b" closed", bytes)?)),
+        None => match word_of(b" closed", bytes) {
+            Some(rest) => Some((JournalState::Closed, rest)),
+            None => None,
+        },
     }
 }
 
@@ -166,7 +174,10 @@ fn script_at(bytes: &[u8]) -> Option<(Script, &[u8])>
     let Some((session, rest)) = number_at(bytes, 8) else {
         return None;
     };
-    let Some((imprint, rest)) = imprint_at(byte_of(b' ', rest)?) else {
+    let Some(rest) = byte_of(b' ', rest) else {
+        return None;
+    };
+    let Some((imprint, rest)) = imprint_at(rest) else {
         return None;
     };
     let script = Script {

@@ -5,9 +5,10 @@ ghost use Rattle.seat_seal.specs.declared.seal.Seal.{Seal as Told};
 ghost use Rattle.seat_seal.specs.Rules.{IsSeal, HasTypes};
 ghost use Rattle.seat_seal.specs.Text.{seal_text};
 ghost use Rattle.seat_seal.specs.RunParts.{run_from};
-ghost use Rattle.seat_seal.specs.Reading.{scripts_at, changes_at, run_at, runs_at, sealed_at, other_at, entry_at, second_at, head_at, seal_at};
+ghost use Rattle.seat_seal.specs.Reading.{scripts_at, changes_at, run_at, runs_at, sealed_at, sealed_behind, other_at, entry_at, second_at, head_at, seal_at};
 
 use crate::date::Date;
+use crate::digest::Digest;
 use crate::fields::{
     date_behind, date_line, digest_line, era_at, imprint_line, journal_line, number_behind,
     number_line, script_line,
@@ -52,7 +53,10 @@ fn is_text_of(seal: &Seal, bytes: &[u8]) -> bool
 fn seal_at(bytes: &[u8]) -> Option<Seal>
     ensures { result ≡ seal_at bytes.now }
 {
-    let Some((first, rest)) = entry_at(head_at(bytes)?) else {
+    let Some(rest) = head_at(bytes) else {
+        return None;
+    };
+    let Some((first, rest)) = entry_at(rest) else {
         return None;
     };
     second_at(first, rest)
@@ -135,7 +139,20 @@ fn sealed_at(bytes: &[u8]) -> Option<(Sealed, &[u8])>
     let Some((days, rest)) = number_line(b"days ", rest, 366) else {
         return None;
     };
-    let (era, rest) = era_at(rest);
+    sealed_behind(set, limits, first, days as u16, rest)
+}
+
+// The same, of what stands behind the lines of what it belongs to.
+fn sealed_behind(
+    set: Digest,
+    limits: Digest,
+    first: Date,
+    days: u16,
+    bytes: &[u8],
+) -> Option<(Sealed, &[u8])>
+    ensures { option_map (λ x. (x.0, x.1.now)) result ≡ sealed_behind set limits first days bytes.now }
+{
+    let (era, rest) = era_at(bytes);
     let Some((journal, rest)) = journal_line(b"journal ", rest) else {
         return None;
     };
@@ -147,7 +164,7 @@ fn sealed_at(bytes: &[u8]) -> Option<(Sealed, &[u8])>
         set,
         limits,
         first,
-        days: days as u16,
+        days,
         era,
         journal,
         runs,

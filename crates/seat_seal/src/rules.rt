@@ -90,7 +90,10 @@ fn is_today(today: &Option<Date>) -> bool
 fn are_runs(runs: &[Run], lines: u32) -> bool
     ensures { result ≡ list_all (is_run lines) runs.now }
 {
-    runs.iter().all(|run| is_run(run, lines))
+    match runs {
+        [] => true,
+        [run, more @ ..] => is_run(run, lines) && are_runs(more, lines),
+    }
 }
 
 #[tactic(auto, unfolding(crate::specs::Rules::is_run))]
@@ -107,7 +110,10 @@ fn is_run(run: &Run, lines: u32) -> bool
 fn are_scripts(scripts: &[Script]) -> bool
     ensures { result ≡ list_all is_script scripts.now }
 {
-    scripts.iter().all(|script| is_imprint(&script.imprint))
+    match scripts {
+        [] => true,
+        [script, more @ ..] => is_imprint(&script.imprint) && are_scripts(more),
+    }
 }
 
 fn are_changes(changes: &Option<Imprint>) -> bool
