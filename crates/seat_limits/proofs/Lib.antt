@@ -4,7 +4,6 @@ pub mod Grids
 pub mod LadderLaws
 pub mod LadderTexts
 pub mod LimitTexts
-pub mod Painting
 pub mod RowFieldLaws
 pub mod RowIndexing
 pub mod RowLaws

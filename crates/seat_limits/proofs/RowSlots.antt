@@ -15,7 +15,8 @@ use Rattle.std.proofs.lemmas.Map.Keys.{IsStrictlyIncreasing-dedup, non_decreasin
 use Rattle.std.proofs.lemmas.Option.{slice_get_within, get_or_from_slice_get, same_Some}
 use Rattle.seat_nesting.specs.Nesting.{Steps}
 use Rattle.seat_limits.specs.Authorised.{row_pair, same_pair, holds_day, is_for, after_row, authorised, row_steps, LastRows, is_of, last_below}
-use Rattle.seat_limits.specs.RowStretches.{slot, number_of, start_of, end_of, holds_slot, passes, last_where, or_row, AreEdges, IsFirst, Paints, IsRowIndex}
+use Rattle.row_stretches.specs.Painting.{or_row, Paints}
+use Rattle.seat_limits.specs.RowStretches.{slot, number_of, start_of, end_of, holds_slot, passes, last_where, AreEdges, IsFirst, IsRowIndex}
 use Rattle.seat_limits.specs.declared.limit_row.LimitRow.{LimitRow}
 use Rattle.seat_limits.specs.declared.row_index.Pair.{Pair}
 use Rattle.seat_limits.proofs.RowIndexing.{pair_is, pair_same, none_within, so_far, so_far_more, nothing_of, last_row}

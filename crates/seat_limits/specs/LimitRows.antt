@@ -1,5 +1,5 @@
 -- Limit rows: their grammar, and their reading with the first fault.
-use Rattle.std.specs.Prelude.{◌≡◌, ℕ, ◌≤◌, nat_le, IsTrue, List, [], ◌∷◌, ◌++◌, IfSome, Result, Ok, codes}
+use Rattle.std.specs.Prelude.{◌≡◌, ℕ, ◌≤◌, nat_le, IsTrue, List, [], ◌∷◌, ◌++◌, IfSome, Option, Result, Ok, codes}
 use Rattle.std.specs.Char.{is_ascii_uppercase}
 use Rattle.std.specs.Str.Lines.{lines}
 use Rattle.airline_base.specs.Names.{is_airline, is_station}
@@ -65,31 +65,41 @@ packed row = record {
   ladder = row.ladder;
 }
 
+-- what stands behind the period
+abbrev pub row_behind_period : List ℕ → ℕ → Option ℕ → ℕ → ℕ → List ℕ → Result LimitRow LimitKind
+row_behind_period airline number suffix from to pair = do
+  board ← want kinds.Pair (fixed_at 3 is_station pair)
+  off ← want kinds.Pair (fixed_at 3 is_station board.1)
+  entries ← want kinds.Entry (byte_at 32 off.1)
+  ladder ← ladder_in entries
+  Ok (record {
+    airline = airline;
+    number = number;
+    suffix = suffix;
+    from = from;
+    to = to;
+    board = board.0;
+    off = off.0;
+    ladder = ladder;
+  })
+
+-- what stands behind the flight
+abbrev pub row_behind_flight : List ℕ → ℕ → Option ℕ → List ℕ → Result LimitRow LimitKind
+row_behind_flight airline number suffix period = do
+  from ← want kinds.Period (date_at period)
+  second ← want kinds.Period (byte_at 32 from.1)
+  to ← want kinds.Period (date_at second)
+  pair ← want kinds.Period (byte_at 32 to.1)
+  _ ← check kinds.Period (nat_le from.0 to.0)
+  row_behind_period airline number suffix from.0 to.0 pair
+
 unfoldable pub row_at : List ℕ → Result LimitRow LimitKind
 row_at line = do
   head ← want kinds.Head (word_at (codes "AU ") line)
   airline ← want kinds.Flight (fixed_at 2 is_airline head)
   number ← want kinds.Flight (numeral_at 4 airline.1)
   period ← want kinds.Flight (byte_at 32 (suffix_at number.1).1)
-  from ← want kinds.Period (date_at period)
-  second ← want kinds.Period (byte_at 32 from.1)
-  to ← want kinds.Period (date_at second)
-  pair ← want kinds.Period (byte_at 32 to.1)
-  _ ← check kinds.Period (nat_le from.0 to.0)
-  board ← want kinds.Pair (fixed_at 3 is_station pair)
-  off ← want kinds.Pair (fixed_at 3 is_station board.1)
-  entries ← want kinds.Entry (byte_at 32 off.1)
-  ladder ← ladder_in entries
-  Ok (record {
-    airline = airline.0;
-    number = number.0;
-    suffix = (suffix_at number.1).0;
-    from = from.0;
-    to = to.0;
-    board = board.0;
-    off = off.0;
-    ladder = ladder;
-  })
+  row_behind_flight airline.0 number.0 (suffix_at number.1).0 period
 
 -- a row says nothing of its line's number
 abbrev pub numbered : Reading LimitRow

@@ -87,9 +87,13 @@ fn legs_of(
 fn no_shares(alloc: Global, rows: &[LimitRow]) -> Result<Vec<Option<SharedLadder>>, Memory>
     ensures { IfOk result (λ shares. AreShares shares.items rows.now) }
 {
-    let mut shares = Vec::with_capacity(alloc, rows.len())?;
+    let Ok(mut shares) = Vec::with_capacity(alloc, rows.len()) else {
+        return Err(Memory);
+    };
     for _row in rows {
-        shares.push(None)?;
+        let Ok(()) = shares.push(None) else {
+            return Err(Memory);
+        };
     }
     Ok(shares)
 }

@@ -71,8 +71,10 @@ fn take_change(rows: &mut ChangeRows, line: u32, text: &[u8]) -> Result<(), Limi
     let _cities: Option<Cities> = row.cities;
     let _setting: RowSetting = row.setting;
     let _class: Option<Class> = None;
-    rows.push(row)?;
-    Ok(())
+    match rows.push(row) {
+        Ok(()) => Ok(()),
+        Err(_) => Err(LimitKind::Memory),
+    }
 }
 
 /// The row that a line spells, or its first fault from left to right.

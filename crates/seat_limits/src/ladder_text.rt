@@ -1,7 +1,7 @@
 //! Ladders as text: entries as `F010/000`, or `F010/000N` with the mark, with single blanks between them.
 ghost use Rattle.std.specs.Prelude.{◌≡◌, ◌≤◌, ◌+◌, ◌*◌, ◌<◌, ℕ, Bool, List, IfErr, IfOk, is_some, length, option_map, Ok, Err};
 ghost use Rattle.seat_nesting.specs.Nesting.{Steps, IsLadder};
-ghost use Rattle.seat_limits.specs.LadderText.{SpellsSteps, IsLadderRefusal, three_in, mark_at, entry_at, steps_in, ladder_in};
+ghost use Rattle.seat_limits.specs.LadderText.{SpellsSteps, IsLadderRefusal, three_in, mark_at, entry_at, step_in, steps_in, ladder_in};
 
 use crate::limit_fault::LimitKind;
 use airline_base::Class;
@@ -101,24 +101,33 @@ pub(crate) fn entry_of(bytes: &[u8]) -> Option<(Step, &[u8])>
     let [class, a, b, c, b'/', d, e, f, rest @ ..] = bytes else {
         return None;
     };
-    let Some(limit) = three_of(*a, *b, *c) else {
-        return None;
-    };
-    let Some(wait) = three_of(*d, *e, *f) else {
-        return None;
-    };
-    let Some(class) = Class::new(*class) else {
-        return None;
-    };
     let (listed, rest) = mark_of(rest);
-    let step = Step {
-        class,
-        limit,
-        wait,
-        listed,
-        closed: false,
+    match step_of(*class, three_of(*a, *b, *c), three_of(*d, *e, *f), listed) {
+        Some(step) => Some((step, rest)),
+        None => None,
+    }
+}
+
+/// The step of a class letter and two numbers, where all are some.
+fn step_of(class: u8, limit: Option<u16>, wait: Option<u16>, listed: bool) -> Option<Step>
+    ensures { result ≡ step_in class limit wait listed }
+{
+    let Some(limit) = limit else {
+        return None;
     };
-    Some((step, rest))
+    let Some(wait) = wait else {
+        return None;
+    };
+    match Class::new(class) {
+        Some(class) => Some(Step {
+            class,
+            limit,
+            wait,
+            listed,
+            closed: false,
+        }),
+        None => None,
+    }
 }
 
 /// Whether the mark stands at the front, and what follows it.

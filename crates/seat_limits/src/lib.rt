@@ -12,7 +12,6 @@ mod limit_row;
 mod row_fields;
 mod row_index;
 mod row_reading;
-mod stretches;
 
 pub use building::build_grid;
 pub use change_reading::read_changes;

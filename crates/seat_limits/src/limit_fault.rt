@@ -1,5 +1,6 @@
 //! What is wrong with limit rows and change rows.
 ghost use Rattle.std.specs.Prelude.{◌≡◌};
+ghost use Rattle.seat_limits.specs.FaultText.{kind_code};
 ghost use Rattle.seat_limits.specs.declared.limit_fault.LimitKind.TheVariants.{Memory as Wanting};
 
 use seat_nesting::LadderFault;
@@ -42,14 +43,24 @@ impl fmt::Display for LimitKind {
     /// The code, with the ladder's own code behind M6.
     fn fmt<W: fmt::Write>(&self, f: &mut fmt::Formatter<W>) -> fmt::Result {
         match self {
-            LimitKind::Head => f.write_str("M1"),
-            LimitKind::Flight => f.write_str("M2"),
-            LimitKind::Period => f.write_str("M3"),
-            LimitKind::Pair => f.write_str("M4"),
-            LimitKind::Entry => f.write_str("M5"),
             LimitKind::Ladder(fault) => write!(f, "M6 {fault}"),
-            LimitKind::Memory => f.write_str("M7"),
+            _ => f.write_str(code_of(self)),
         }
+    }
+}
+
+/// The code.
+fn code_of(kind: &LimitKind) -> &'static str
+    ensures { result.now ≡ kind_code kind.now }
+{
+    match kind {
+        LimitKind::Head => "M1",
+        LimitKind::Flight => "M2",
+        LimitKind::Period => "M3",
+        LimitKind::Pair => "M4",
+        LimitKind::Entry => "M5",
+        LimitKind::Ladder(_) => "M6",
+        LimitKind::Memory => "M7",
     }
 }
 

@@ -53,7 +53,11 @@ fn take_line(alloc: Global, rows: &mut LimitRows, text: &[u8]) -> Result<(), Lim
         Ok(read) => read,
         Err(kind) => return Err(kind),
     };
-    let row = read.packed(alloc)?;
-    rows.push(row)?;
-    Ok(())
+    let Ok(row) = read.packed(alloc) else {
+        return Err(LimitKind::Memory);
+    };
+    match rows.push(row) {
+        Ok(()) => Ok(()),
+        Err(_) => Err(LimitKind::Memory),
+    }
 }

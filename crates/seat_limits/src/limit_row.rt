@@ -46,8 +46,10 @@ impl RowLadder {
     pub(crate) fn of(alloc: Global, ladder: &Ladder) -> Result<RowLadder, AllocError>
         ensures { IfOk result (λ row. row ≡ ladder.now) }
     {
-        let steps = Vec::from_slice(alloc, ladder.steps())?;
-        Ok(RowLadder { steps })
+        match Vec::from_slice(alloc, ladder.steps()) {
+            Ok(steps) => Ok(RowLadder { steps }),
+            Err(_) => Err(AllocError),
+        }
     }
 
     /// The ladder, in the memory of the longest.

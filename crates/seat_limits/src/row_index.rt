@@ -6,8 +6,8 @@ ghost use Rattle.seat_limits.specs.Authorised.{row_pair, same_pair, leg_pair, au
 ghost use Rattle.seat_limits.specs.RowStretches.{slot, number_of, AreEdges, IsFirst, Knows, ShowRows, IsRowIndex};
 
 use crate::limit_row::LimitRow;
-use crate::stretches::Stretches;
 use airline_base::{Airline, Day, Memory, Station};
+use row_stretches::Stretches;
 use ssim_flights::{DatedLeg, Flight};
 use std::alloc::Global;
 use std::collections::HashMap;
@@ -42,9 +42,15 @@ impl RowIndex {
     pub fn new(alloc: Global, rows: &[LimitRow]) -> Result<RowIndex, Memory>
         ensures { IfOk result (λ x. IsRowIndex x.last x.edges.items x.found.items rows.now) }
     {
-        let last = last_rows(alloc, rows)?;
-        let edges = edges_of(alloc, rows, &last)?;
-        let found = rows_found(alloc, rows, &last, &edges)?;
+        let Ok(last) = last_rows(alloc, rows) else {
+            return Err(Memory);
+        };
+        let Ok(edges) = edges_of(alloc, rows, &last) else {
+            return Err(Memory);
+        };
+        let Ok(found) = rows_found(alloc, rows, &last, &edges) else {
+            return Err(Memory);
+        };
         Ok(RowIndex { last, edges, found })
     }
 
@@ -54,8 +60,10 @@ impl RowIndex {
         ensures ladder { row_steps _rows.now result ≡ authorised _rows.now pair day }
         ensures inside { IfSome result (λ i. i < length _rows.now) }
     {
-        let number = *self.last.get(&pair)?;
-        let place = first_at(&self.edges, slot(number, day) + 1);
+        let Some(number) = self.last.get(&pair) else {
+            return None;
+        };
+        let place = first_at(&self.edges, slot(*number, day) + 1);
         if place == 0 {
             return None;
         }
@@ -67,13 +75,17 @@ impl RowIndex {
 fn last_rows(alloc: Global, rows: &[LimitRow]) -> Result<HashMap<Pair, u32>, Memory>
     ensures { IfOk result (λ last. HasLastRows last rows.now (length rows.now)) }
 {
-    let count = count_of(rows)?;
+    let Ok(count) = count_of(rows) else {
+        return Err(Memory);
+    };
     let mut last = HashMap::new(alloc);
     let mut i = 0;
     while i < count {
         let first = &rows[i as usize];
         let end = run_end(rows, first, i, count);
-        put(&mut last, pair_of(first), end - 1)?;
+        let Ok(()) = put(&mut last, pair_of(first), end - 1) else {
+            return Err(Memory);
+        };
         i = end;
     }
     Ok(last)
@@ -118,8 +130,10 @@ fn count_of(rows: &[LimitRow]) -> Result<u32, Memory>
 fn put(last: &mut HashMap<Pair, u32>, pair: Pair, i: u32) -> Result<(), Memory>
     ensures { OnOk result (PutsRow last.old last.new pair i) }
 {
-    let _ = last.insert(pair, i)?;
-    Ok(())
+    match last.insert(pair, i) {
+        Ok(_) => Ok(()),
+        Err(_) => Err(Memory),
+    }
 }
 
 /// The slots on which rows begin or have ended, each once.
@@ -130,8 +144,12 @@ fn edges_of(alloc: Global, rows: &[LimitRow], last: &HashMap<Pair, u32>) -> Resu
     let mut known = None;
     for row in rows {
         let number = number_known(last, &mut known, row);
-        edges.push(start_of(number, row))?;
-        edges.push(end_of(number, row))?;
+        let Ok(()) = edges.push(start_of(number, row)) else {
+            return Err(Memory);
+        };
+        let Ok(()) = edges.push(end_of(number, row)) else {
+            return Err(Memory);
+        };
     }
     edges.sort_unstable();
     edges.dedup();
@@ -148,9 +166,14 @@ fn rows_found(
     requires { IsNonDecreasing edges.now }
     ensures { IfOk result (λ found. ShowRows last.now rows.now edges.now found.items) }
 {
-    let mut stretches = Stretches::new(alloc, edges.len())?;
+    let Ok(mut stretches) = Stretches::new(alloc, edges.len()) else {
+        return Err(Memory);
+    };
     let mut known = None;
-    let mut i = count_of(rows)?;
+    let Ok(count) = count_of(rows) else {
+        return Err(Memory);
+    };
+    let mut i = count;
     while i > 0 {
         i -= 1;
         let row = &rows[i as usize];

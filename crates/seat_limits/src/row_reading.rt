@@ -1,7 +1,7 @@
 //! Reading limit rows: `AU XX123 01JUN24 30JUN24 LHRJFK F112/004 Y100/010`.
 ghost use Rattle.std.specs.Prelude.{◌≡◌, IfOk};
 ghost use Rattle.std.specs.Result.{result_map_both};
-ghost use Rattle.seat_limits.specs.LimitRows.{packed, row_at};
+ghost use Rattle.seat_limits.specs.LimitRows.{packed, row_at, row_behind_flight, row_behind_period};
 
 use crate::ladder_text::ladder_of;
 use crate::limit_fault::LimitKind;
@@ -30,7 +30,9 @@ impl ReadRow {
     pub(crate) fn packed(&self, alloc: Global) -> Result<LimitRow, AllocError>
         ensures { IfOk result (λ row. row ≡ packed self.now) }
     {
-        let ladder = RowLadder::of(alloc, &self.ladder)?;
+        let Ok(ladder) = RowLadder::of(alloc, &self.ladder) else {
+            return Err(AllocError);
+        };
         Ok(LimitRow {
             airline: self.airline,
             number: self.number,
@@ -62,7 +64,19 @@ pub(crate) fn row_of(line: &[u8]) -> Result<ReadRow, LimitKind>
     let Some(rest) = byte_of(b' ', rest) else {
         return Err(LimitKind::Flight);
     };
-    let Some((from, rest)) = date_of(rest) else {
+    row_behind_flight(airline, number, suffix, rest)
+}
+
+/// The same, of what stands behind the flight and a blank.
+fn row_behind_flight(
+    airline: Airline,
+    number: u16,
+    suffix: Option<u8>,
+    bytes: &[u8],
+) -> Result<ReadRow, LimitKind>
+    ensures { result_map_both packed (λ kind. kind) result ≡ row_behind_flight airline number suffix bytes.now }
+{
+    let Some((from, rest)) = date_of(bytes) else {
         return Err(LimitKind::Period);
     };
     let Some(rest) = byte_of(b' ', rest) else {
@@ -77,7 +91,21 @@ pub(crate) fn row_of(line: &[u8]) -> Result<ReadRow, LimitKind>
     if from.number() > to.number() {
         return Err(LimitKind::Period);
     }
-    let Some((board, rest)) = station_of(rest) else {
+    row_behind_period(airline, number, suffix, from, to, rest)
+}
+
+/// The same, of what stands behind the period and a blank.
+fn row_behind_period(
+    airline: Airline,
+    number: u16,
+    suffix: Option<u8>,
+    from: Day,
+    to: Day,
+    bytes: &[u8],
+) -> Result<ReadRow, LimitKind>
+    ensures { result_map_both packed (λ kind. kind) result ≡ row_behind_period airline number suffix from to bytes.now }
+{
+    let Some((board, rest)) = station_of(bytes) else {
         return Err(LimitKind::Pair);
     };
     let Some((off, rest)) = station_of(rest) else {
@@ -86,15 +114,17 @@ pub(crate) fn row_of(line: &[u8]) -> Result<ReadRow, LimitKind>
     let Some(entries) = byte_of(b' ', rest) else {
         return Err(LimitKind::Entry);
     };
-    let ladder = ladder_of(entries)?;
-    Ok(ReadRow {
-        airline,
-        number,
-        suffix,
-        from,
-        to,
-        board,
-        off,
-        ladder,
-    })
+    match ladder_of(entries) {
+        Ok(ladder) => Ok(ReadRow {
+            airline,
+            number,
+            suffix,
+            from,
+            to,
+            board,
+            off,
+            ladder,
+        }),
+        Err(kind) => Err(kind),
+    }
 }

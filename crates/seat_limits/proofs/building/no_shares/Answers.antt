@@ -5,14 +5,14 @@ use Rattle.seat_limits.proofs.building.no_shares.Goals as goal
 
 pub loop-row-init : goal.loop-row-init
 loop-row-init c = record {
-  counted = rw c.in_ok-shares.ensures.items refl;
-  none = rw c.in_ok-shares.ensures.items tt;
+  counted = rw c.in-Ok.ensures.items refl;
+  none = rw c.in-Ok.ensures.items tt;
 }
 
 pub loop-row-preserved : goal.loop-row-preserved
 loop-row-preserved c = record {
-  counted = rw c.in_ok-push.ensures.items (length-append c.loop-row.shares.items (None ∷ []) ∙ omega (arith, c.loop-row.invariant.counted));
-  none = rw c.in_ok-push.ensures.items (none_more c.loop-row.shares.items c.loop-row.invariant.none);
+  counted = rw c.in-Ok-push.ensures.items (length-append c.loop-row.shares.items (None ∷ []) ∙ omega (arith, c.loop-row.invariant.counted));
+  none = rw c.in-Ok-push.ensures.items (none_more c.loop-row.shares.items c.loop-row.invariant.none);
 }
 
 pub returns : goal.returns

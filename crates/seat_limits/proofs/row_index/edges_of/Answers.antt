@@ -13,7 +13,7 @@ loop-row-preserved c =
     let start : c.start_of.result ≡ start_of c.args.last.now row = c.start_of.ensures ∙ ap (λ (n : ℕ). slot n row.from) number in
     let end : c.end_of.result ≡ end_of c.args.last.now row = c.end_of.ensures.value ∙ ap (λ (n : ℕ). slot n row.to + 1) number in
     record {
-      edges_so_far = rw (c.in_ok-push-2.ensures.items, c.in_ok-push.ensures.items)
+      edges_so_far = rw (c.in-Ok-push.ensures.items, c.in-Ok.ensures.items)
           (edges_more c.args.last.now c.args.rows.now c.loop-row.edges.items c.start_of.result c.end_of.result c.loop-row.row-index row c.loop-row.invariant.edges_so_far c.loop-row-test.true c.row-item.is start end c.end_of.ensures.day);
       knows = c.number_known-number.ensures.knows;
     }

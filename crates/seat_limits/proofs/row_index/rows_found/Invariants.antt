@@ -1,5 +1,6 @@
 use Rattle.std.proofs.Common.{◌≤◌, length}
-use Rattle.seat_limits.specs.RowStretches.{Knows, Skips}
+use Rattle.row_stretches.specs.Painting.{Skips}
+use Rattle.seat_limits.specs.RowStretches.{Knows}
 use Rattle.seat_limits.proofs.RowSlots.{ShowFrom}
 use Rattle.seat_limits.proofs.row_index.rows_found.Given as goal
 

@@ -1,6 +1,6 @@
 use Rattle.std.proofs.Common.{◌≡◌, ◌+◌, ℕ, List, subst, sym, arith, rules}
-use Rattle.seat_limits.proofs.Painting.{SkipNone, skip_none, skip_none_more, skips_at_first}
-use Rattle.seat_limits.proofs.stretches.Stretches.new.Goals as goal
+use Rattle.row_stretches.proofs.Painting.{SkipNone, skip_none, skip_none_more, skips_at_first}
+use Rattle.row_stretches.proofs.stretches.Stretches.new.Goals as goal
 
 pub loop-i-init : goal.loop-i-init
 loop-i-init c = rw c.new-skips.ensures.items skip_none

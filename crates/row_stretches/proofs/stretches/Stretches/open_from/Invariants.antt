@@ -1,6 +1,6 @@
 use Rattle.std.proofs.Common.{◌≡◌, ◌≢◌, ℕ, ◌-◌, ◌<◌, ◌≤◌, None, length, get_or}
-use Rattle.seat_limits.specs.RowStretches.{Skips}
-use Rattle.seat_limits.proofs.stretches.Stretches.open_from.Given as goal
+use Rattle.row_stretches.specs.Painting.{Skips}
+use Rattle.row_stretches.proofs.stretches.Stretches.open_from.Given as goal
 
 abbrev pub invariant-loop-at : goal.invariant-loop-at
 invariant-loop-at l = record {

@@ -1,6 +1,6 @@
 //! Stretches between edges, each with a row: they are given from the last row to the first, and the first to come stays.
 ghost use Rattle.std.specs.Prelude.{◌≡◌, ◌≤◌, ◌<◌, Some, None, length, replicate, slice_set, IfOk};
-ghost use Rattle.seat_limits.specs.RowStretches.{IsNext, Paints, Skips};
+ghost use Rattle.row_stretches.specs.Painting.{IsNext, Paints, Skips};
 
 use airline_base::Memory;
 use std::alloc::Global;

@@ -1,6 +1,6 @@
 use Rattle.std.proofs.Common.{arith}
-use Rattle.seat_limits.proofs.Painting.{paint_start, paint_more, paint_end}
-use Rattle.seat_limits.proofs.stretches.Stretches.paint.Goals as goal
+use Rattle.row_stretches.proofs.Painting.{paint_start, paint_more, paint_end}
+use Rattle.row_stretches.proofs.stretches.Stretches.paint.Goals as goal
 
 pub open_from-at-requires-clause-skips : goal.open_from-at-requires-clause-skips
 open_from-at-requires-clause-skips c = c.requires.skips
