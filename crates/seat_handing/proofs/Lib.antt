@@ -1,9 +1,7 @@
 pub mod Counted
-pub mod Faults
 pub mod Hands
 pub mod Judged
 pub mod Known
 pub mod Marks
 pub mod Ordered
-pub mod Puts
 pub mod Olders

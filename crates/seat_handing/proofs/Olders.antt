@@ -11,10 +11,10 @@ use Rattle.seat_seal.specs.declared.imprint.Imprint.{Imprint}
 use Rattle.seat_handing.specs.Handing.{put_back}
 use Rattle.seat_handing.specs.Marking.{NeverBoth, SaysCarried}
 use Rattle.seat_handing.specs.Several.{AreAllHanded, AreBack, AreMarked, AreStaying, AreStopped, AreTakenBack, AreUnfinished, AreUnmarked, AreUntouched, EachKept, EachSynced, EachUnsynced, KeptOn, MarkedOn, NeverAny, SayCarried, UnsyncedOn}
-use Rattle.seat_handing.specs.Steps.{HasFailed, IsReplaced}
-use Rattle.seat_handing.specs.Stopping.{HasFailedBack, HasNoneBack, IsPutBack, IsTakenBack}
+use Rattle.hand_steps.specs.Steps.{HasFailed, IsReplaced}
+use Rattle.hand_steps.specs.Stopping.{HasFailedBack, HasNoneBack, IsPutBack, IsTakenBack}
 use Rattle.seat_handing.specs.declared.several.OlderMark.{OlderMark}
-use Rattle.seat_handing.proofs.Ordered.{ahead_within}
+use Rattle.hand_steps.proofs.Ordered.{ahead_within}
 
 -- ---- as many seals as marks
 

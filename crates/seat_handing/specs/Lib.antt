@@ -4,5 +4,3 @@ pub mod Judging
 pub mod Laws
 pub mod Marking
 pub mod Several
-pub mod Steps
-pub mod Stopping

@@ -7,8 +7,8 @@ use Rattle.seat_disk.specs.declared.synced.Synced.{Synced}
 use Rattle.seat_seal.specs.declared.imprint.Imprint.{Imprint}
 use Rattle.seat_handing.specs.Handing.{put_back}
 use Rattle.seat_handing.specs.Marking.{NeverBoth, SaysCarried}
-use Rattle.seat_handing.specs.Steps.{HasFailed, IsReplaced}
-use Rattle.seat_handing.specs.Stopping.{HasFailedBack, HasNoneBack, IsPutBack}
+use Rattle.hand_steps.specs.Steps.{HasFailed, IsReplaced}
+use Rattle.hand_steps.specs.Stopping.{HasFailedBack, HasNoneBack, IsPutBack}
 use Rattle.seat_handing.specs.declared.several.OlderMark.{OlderMark}
 
 -- each says that the bookings were carried to the journal of this mark

@@ -1,12 +1,11 @@
 //! Whether the bookings of a journal may be carried to a newer one.
 //! It knows the mark of an entry, and the bytes that stand under the newer journal's name and beside it.
 ghost use Rattle.std.specs.Prelude.{◌≡◌, Err, Ok, Some, if◌then◌else◌, option_map};
-ghost use Rattle.seat_seal.specs.Comparing.{same_imprint};
 ghost use Rattle.seat_sealing.specs.Older.{IsSealIn};
 ghost use Rattle.seat_handing.specs.Deciding.{IsHand, finish_for, hand_for, is_mark_of, is_sealed_alone, is_whole, may_be_put, names_alone, stands};
 
 use crate::marking::{mark_of, may_be_marked};
-use seat_seal::{Imprint, Seal, SealEntry, Sealed, front_of, imprint_of, read_seal};
+use seat_seal::{Imprint, Seal, SealEntry, Sealed, front_of, imprint_of, read_seal, same_imprint};
 
 /// What is done with the mark as the newer journal is written.
 #[derive(Clone, Copy)]
@@ -188,10 +187,4 @@ fn is_mark_of(mark: &Imprint, name: &str, whole: &[u8]) -> bool
         return false;
     }
     same_imprint(mark, &mark_of(name, whole))
-}
-
-fn same_imprint(one: &Imprint, other: &Imprint) -> bool
-    ensures { result ≡ same_imprint one.now other.now }
-{
-    one.digest.bytes() == other.digest.bytes() && one.bytes == other.bytes
 }

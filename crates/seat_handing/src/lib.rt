@@ -7,11 +7,11 @@ mod handing;
 mod judging;
 mod laws;
 mod marking;
-mod putting;
 mod several;
 
 pub use deciding::{Hand, HandRefusal, may_hand};
-pub use handing::{HandFault, hand_over};
+pub use hand_steps::HandFault;
+pub use handing::hand_over;
 pub use judging::{HandsRefusal, Judgement, may_hand_each};
 pub use laws::what_is_marked_is_known;
 pub use marking::may_be_marked;

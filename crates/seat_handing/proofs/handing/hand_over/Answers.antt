@@ -20,7 +20,7 @@ pub returns-clause-order : goal.returns-clause-order
 returns-clause-order g c =
     rw (← c.as_slice.ensures.value ∙ c.text_of_mark-mark.ensures.text)
     (rw (← c.as_slice-2.ensures.value ∙ c.seal_texts-texts.ensures.both) (rw (← c.as_slice-3.ensures.value ∙ c.seal_texts-texts.ensures.alone)
-    c.hand_in_order.ensures.order))
+    (rw c.is_taken_back.ensures at c.hand_in_order.ensures.order)))
 
 pub returns-clause-names : goal.returns-clause-names
 returns-clause-names g c = c.text_of_mark-mark.ensures.names
@@ -31,13 +31,13 @@ returns-clause-each g c = c.text_of_mark-mark.ensures.each
 pub returns-clause-taken : goal.returns-clause-taken
 returns-clause-taken g c =
     rw (← c.as_slice.ensures.value ∙ c.text_of_mark-mark.ensures.text)
-    (rw (← c.as_slice-2.ensures.value ∙ c.seal_texts-texts.ensures.both) c.hand_in_order.ensures.taken)
+    (rw (← c.as_slice-2.ensures.value ∙ c.seal_texts-texts.ensures.both) (rw c.is_taken_back.ensures at c.hand_in_order.ensures.taken))
 
 pub returns-clause-unfinished : goal.returns-clause-unfinished
 returns-clause-unfinished g c =
     rw (← c.as_slice.ensures.value ∙ c.text_of_mark-mark.ensures.text)
     (rw (← c.as_slice-2.ensures.value ∙ c.seal_texts-texts.ensures.both) (rw (← c.as_slice-3.ensures.value ∙ c.seal_texts-texts.ensures.alone)
-    c.hand_in_order.ensures.unfinished))
+    (rw c.is_taken_back.ensures at c.hand_in_order.ensures.unfinished)))
 
 pub returns-clause-unsaid : goal.returns-clause-unsaid
 returns-clause-unsaid g c =
@@ -76,7 +76,7 @@ returns-clause-never g c =
     (mark_of c.args.name.now c.args.whole.now)
     (subst (SaysCarried (mark_of c.args.name.now c.args.whole.now)) (sym (c.as_slice.ensures.value ∙ c.text_of_mark-mark.ensures.text))
     c.text_of_mark-mark.ensures.says)
-    c.hand_in_order.ensures.order
+    (rw c.is_taken_back.ensures at c.hand_in_order.ensures.order)
 
 pub returns-clause-sealed : goal.returns-clause-sealed
 returns-clause-sealed g c =

@@ -1,7 +1,7 @@
 use Rattle.std.proofs.Common.{true, false, refl, sym, ◌∙◌}
 use Rattle.std.proofs.lemmas.List.{nil_from_length}
 use Rattle.seat_handing.specs.declared.judging.HandsRefusal.TheVariants.{Refused}
-use Rattle.seat_handing.proofs.Faults.{when_ok}
+use Rattle.hand_steps.proofs.Faults.{when_ok}
 use Rattle.seat_handing.proofs.Judged.{all_added, all_whole, here_refused, later_refused, none_added, none_left, none_refused, none_whole}
 use Rattle.seat_handing.proofs.judging.+judge_all.Goals as goal
 

@@ -1,6 +1,6 @@
 use Rattle.std.proofs.Common.{sym, ◌∙◌}
 use Rattle.std.proofs.lemmas.List.{nil_from_length}
-use Rattle.seat_handing.proofs.Faults.{unfinished_not_back, unfinished_not_unsaid, when_err, when_ok}
+use Rattle.hand_steps.proofs.Faults.{unfinished_not_back, unfinished_not_unsaid, when_err, when_ok}
 use Rattle.seat_handing.proofs.Olders.{kept_back, kept_here, kept_more, kept_same, marked_more, marked_none, not_fewer, stopped_back, stopped_here, stopped_later, synced_more, synced_none, unmarked_here, unmarked_later, unsynced_back, unsynced_here, unsynced_more, unsynced_same}
 use Rattle.seat_handing.proofs.several.+mark_all.Goals as goal
 

@@ -1,7 +1,7 @@
 use Rattle.std.proofs.Common.{inl, refl}
 use Rattle.std.proofs.lemmas.List.{nil_from_length}
 use Rattle.seat_disk.proofs.Keeping.{no_more}
-use Rattle.seat_handing.proofs.Faults.{back_not_unfinished, back_not_unsaid, unfinished_not_back, unfinished_not_unsaid}
+use Rattle.hand_steps.proofs.Faults.{back_not_unfinished, back_not_unsaid, unfinished_not_back, unfinished_not_unsaid}
 use Rattle.seat_handing.proofs.Olders.{back_more, back_none, kept_more, kept_same, not_fewer, staying_here, staying_later, unsynced_more, unsynced_same}
 use Rattle.seat_handing.proofs.several.+take_back_all.Goals as goal
 

@@ -1,6 +1,6 @@
 use Rattle.std.proofs.Common.{inl, inr, refl, sym, ◌∙◌}
 use Rattle.seat_disk.proofs.Keeping.{no_more}
-use Rattle.seat_handing.proofs.Faults.{back_not_unsaid, unfinished_not_back, unfinished_not_unsaid, unsaid_not_back, unsaid_not_unfinished}
+use Rattle.hand_steps.proofs.Faults.{back_not_unsaid, unfinished_not_back, unfinished_not_unsaid, unsaid_not_back, unsaid_not_unfinished}
 use Rattle.seat_handing.proofs.Olders.{all_handed, any_marked, kept_through, never_any_back, never_any_same, never_same, same_names, taken_all, taken_marks, taken_within, unfinished_back, unfinished_last, unfinished_marks, unsynced_through}
 use Rattle.seat_handing.proofs.several.hand_over_several.Goals as goal
 

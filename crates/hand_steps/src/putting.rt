@@ -5,7 +5,7 @@ ghost use Rattle.seat_disk.specs.Counts.{NotesCall};
 ghost use Rattle.seat_disk.specs.Keeping.{KeepsNoMore};
 ghost use Rattle.seat_disk.specs.Leaving.{OldOr, OnlyKnown, Within, WithinEither, replaced_by};
 ghost use Rattle.seat_disk.specs.Syncs.{AllSynced, NoneUnsynced, SameNames, kept_name, renamed};
-ghost use Rattle.seat_handing.specs.Steps.{HasFailed, HasFailedAhead, IsReplaced};
+ghost use Rattle.hand_steps.specs.Steps.{HasFailed, HasFailedAhead, IsReplaced};
 
 use airline_base::WriteFault;
 use seat_disk::{Replaced, replace_whole};
@@ -22,7 +22,7 @@ pub(crate) enum NotPut {
 
 /// Puts these bytes in place of what the file has, on the disk, and keeps nothing of that.
 #[tactic(auto, using(crate::proofs::Puts::replaced, crate::proofs::Puts::failed))]
-pub(crate) fn put<F: Replaced>(file: &mut F, bytes: &[u8]) -> Result<(), WriteFault>
+pub fn put<F: Replaced>(file: &mut F, bytes: &[u8]) -> Result<(), WriteFault>
     ensures ok { OnOk result (IsReplaced F.failure_count F.named F.may_leave bytes.now file.old file.new) }
     ensures failed { OnErr result (HasFailed F.failure_count F.named bytes.now file.old file.new) }
     ensures crash { OldOr bytes.now (F.may_leave file.old) (F.may_leave file.new) }

@@ -1,9 +1,9 @@
 use Rattle.std.proofs.Common.{◌⊎◌, inl, inr, refl}
 use Rattle.seat_disk.proofs.Keeping.{no_more_on}
 use Rattle.seat_disk.proofs.Syncs.{none_between}
-use Rattle.seat_handing.proofs.Faults.{unfinished_not_back, unfinished_not_unsaid}
-use Rattle.seat_handing.proofs.Ordered.{handed, handed_over, order_ahead, order_behind, order_closing, taken_back, unfinished_ahead, unfinished_alone, unfinished_name, unsaid}
-use Rattle.seat_handing.proofs.handing.hand_in_order.Goals as goal
+use Rattle.hand_steps.proofs.Faults.{unfinished_not_back, unfinished_not_unsaid}
+use Rattle.hand_steps.proofs.Ordered.{handed, handed_over, order_ahead, order_behind, order_closing, taken_back, unfinished_ahead, unfinished_alone, unfinished_name, unsaid}
+use Rattle.hand_steps.proofs.steps.hand_in_order.Goals as goal
 
 -- what holds of the last step is told with what holds of those ahead of it
 with_both : {A B P Q : Type 0} → P → Q → A ⊎ B → A ⊎ (P × (Q × B))

@@ -1,9 +1,9 @@
 use Rattle.std.proofs.Common.{◌≡◌, [], inl, refl, sym, ◌∙◌}
 use Rattle.seat_disk.proofs.Keeping.{no_more}
-use Rattle.seat_handing.specs.declared.putting.NotPut.TheVariants.{Ahead, Behind}
-use Rattle.seat_handing.proofs.Faults.{when_err, when_ok}
-use Rattle.seat_handing.proofs.Ordered.{both_failed, mark_failed, name_failed, text_failed}
-use Rattle.seat_handing.proofs.handing.begin.Goals as goal
+use Rattle.hand_steps.specs.declared.putting.NotPut.TheVariants.{Ahead, Behind}
+use Rattle.hand_steps.proofs.Faults.{when_err, when_ok}
+use Rattle.hand_steps.proofs.Ordered.{both_failed, mark_failed, name_failed, text_failed}
+use Rattle.hand_steps.proofs.steps.begin.Goals as goal
 
 ahead_not_behind : Ahead ≡ Behind → ⊥
 ahead_not_behind is = absurd (cc is)

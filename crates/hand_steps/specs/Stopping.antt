@@ -3,7 +3,7 @@
 use Rattle.std.specs.Prelude.{◌≡◌, ◌⊎◌, ℕ, List, Option, None, Some}
 use Rattle.airline_base.specs.Noting.{TookFront}
 use Rattle.seat_sealing.specs.Steps.{Counted}
-use Rattle.seat_handing.specs.Steps.{HasFailed, HasFailedAhead, IsReplaced}
+use Rattle.hand_steps.specs.Steps.{HasFailed, HasFailedAhead, IsReplaced}
 
 -- the mark failed, and the other files were not touched
 pub record MarkFailed {S J K : Type 0} (s_failures : S → ℕ) (s_named : S → Option (List ℕ)) (mark : List ℕ)

@@ -2,7 +2,7 @@
 use Rattle.std.proofs.Common.{◌≡◌, true, false}
 use Rattle.std.specs.Prelude.{Result, Ok, Err, OnErr, OnOk}
 use Rattle.std.specs.Result.{is_err}
-use Rattle.seat_handing.specs.declared.handing.HandFault.TheVariants.{TakenBack, Unfinished, Unsaid}
+use Rattle.hand_steps.specs.declared.steps.HandFault.TheVariants.{TakenBack, Unfinished, Unsaid}
 
 pub when_ok : {A E : Type 0} (r : Result A E) (P : Type 0) → is_err r ≡ false → OnOk r P → P
 when_ok (Ok x) P e held = held

@@ -2,7 +2,7 @@
 use Rattle.std.proofs.Common.{◌≡◌, ◌⊎◌, ℕ, List, Option}
 use Rattle.seat_disk.specs.Leaving.{Only, Within, replaced_by}
 use Rattle.seat_sealing.specs.Steps.{Counted}
-use Rattle.seat_handing.specs.Steps.{HasFailed, HasFailedAhead, IsReplaced}
+use Rattle.hand_steps.specs.Steps.{HasFailed, HasFailedAhead, IsReplaced}
 
 module _ {F : Type 0} (failures : F → ℕ) (named : F → Option (List ℕ)) (leaves : F → List ℕ → Type 0) (bytes : List ℕ) (old new : F) where
   pub replaced : named new ≡ replaced_by (named old) bytes → Only bytes (leaves new) → failures new ≡ failures old

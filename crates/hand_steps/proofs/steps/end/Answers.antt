@@ -1,6 +1,6 @@
 use Rattle.std.proofs.Common.{inl, inr, refl, sym, ◌∙◌}
-use Rattle.seat_handing.proofs.Faults.{unfinished_not_back, unfinished_not_unsaid, unsaid_not_back, unsaid_not_unfinished, when_err, when_ok}
-use Rattle.seat_handing.proofs.handing.end.Goals as goal
+use Rattle.hand_steps.proofs.Faults.{unfinished_not_back, unfinished_not_unsaid, unsaid_not_back, unsaid_not_unfinished, when_err, when_ok}
+use Rattle.hand_steps.proofs.steps.end.Goals as goal
 
 -- ---- the seal failed
 

@@ -1,0 +1,3 @@
+pub mod Handing
+pub mod Steps
+pub mod Stopping
