@@ -326,7 +326,9 @@ pub fn open_ledgers<K: Hosting>(
         staked(AnyShare::One(Whole::of(share_one))),
         staked(AnyShare::Zero(Whole::of(share_zero))),
     ];
-    let rest = Vec::from_array(alloc, stakes)?;
+    let Ok(rest) = Vec::from_array(alloc, stakes) else {
+        return Err(Memory);
+    };
     Ok((line_counts, Stakes { rest, next: 0 }))
 }
 

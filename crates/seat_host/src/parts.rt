@@ -107,8 +107,13 @@ impl Parts {
         ensures parts { IfOk result (λ p. (p.grid ≡ core.grid) × (p.cap ≡ core.cap) × (p.sessions ≡ sessions)) }
         ensures past { IfOk result (λ p. p.past ≡ core.journal) }
     {
-        let grid = core.grid().copy(alloc)?;
-        let (publisher, viewers) = shown_over(rt, alloc, &grid, core.journal(), sessions + 1)?;
+        let Ok(grid) = core.grid().copy(alloc) else {
+            return Err(Memory);
+        };
+        let Ok((publisher, viewers)) = shown_over(rt, alloc, &grid, core.journal(), sessions + 1)
+        else {
+            return Err(Memory);
+        };
         Ok(Parts {
             grid,
             core,
@@ -134,8 +139,12 @@ fn shown_over<R: Wait>(
     ensures publisher { IfOk result (λ r. (r.0.grid ≡ grid.now) × (r.0.visible ≡ lines.now) × (r.0.pending ≡ [])) }
     ensures viewers { IfOk result (λ r. (vec_len r.1 ≡ places) × All (λ v. v ≡ opened r.0.book grid.now) r.1.items) }
 {
-    let (publisher, viewers) = open_display(rt, alloc, grid, places)?;
-    let publisher = showing(rt, alloc, publisher, lines)?;
+    let Ok((publisher, viewers)) = open_display(rt, alloc, grid, places) else {
+        return Err(Memory);
+    };
+    let Ok(publisher) = showing(rt, alloc, publisher, lines) else {
+        return Err(Memory);
+    };
     Ok((publisher, viewers))
 }
 
@@ -183,7 +192,9 @@ fn append_all(alloc: Global, publisher: &mut Publisher, lines: &[Entry]) -> Resu
         × (publisher.new.visible ≡ publisher.old.visible) }
 {
     for line in lines {
-        let shown = line.copy(alloc)?;
+        let Ok(shown) = line.copy(alloc) else {
+            return Err(Memory);
+        };
         let Ok(()) = publisher.append(shown) else {
             return Err(Memory);
         };

@@ -41,7 +41,7 @@ pub fn seat_all<K: Hosting>(
 {
     let mut stakes = stakes;
     let mut viewers = viewers;
-    let party = seat_next(
+    let Ok(party) = seat_next(
         alloc,
         lines,
         publisher,
@@ -49,8 +49,10 @@ pub fn seat_all<K: Hosting>(
         &mut stakes,
         &mut viewers,
         0,
-    )?;
-    let seats = seat_sessions(
+    ) else {
+        return Err(Memory);
+    };
+    let Ok(seats) = seat_sessions(
         alloc,
         lines,
         publisher,
@@ -58,7 +60,9 @@ pub fn seat_all<K: Hosting>(
         &mut stakes,
         &mut viewers,
         sessions,
-    )?;
+    ) else {
+        return Err(Memory);
+    };
     Ok((Manager { party }, seats))
 }
 
@@ -83,7 +87,7 @@ fn seat_sessions<K: Hosting>(
 {
     let mut seats = Vec::new(alloc);
     for seated in 0..sessions {
-        let party = seat_next(
+        let Ok(party) = seat_next(
             alloc,
             lines,
             publisher,
@@ -91,8 +95,12 @@ fn seat_sessions<K: Hosting>(
             stakes,
             viewers,
             seated + 1,
-        )?;
-        seats.push(Session { party })?;
+        ) else {
+            return Err(Memory);
+        };
+        let Ok(()) = seats.push(Session { party }) else {
+            return Err(Memory);
+        };
     }
     Ok(seats)
 }
@@ -117,7 +125,9 @@ fn seat_next<K: Hosting>(
     ensures seating { OnOk result (Seating K.book K.grid lines.now (id + 1) line_counts.new stakes.new viewers.new.items) }
     ensures len { OnOk result (vec_len viewers.new + 1 ≡ vec_len viewers.old) }
 {
-    let receipts = receipts_of(alloc, id, lines)?;
+    let Ok(receipts) = receipts_of(alloc, id, lines) else {
+        return Err(Memory);
+    };
     let Some(mut stake) = stakes.take() else {
         unreachable!()
     };

@@ -87,7 +87,7 @@ pub fn gather<K: Hosting, R: Wait>(
     ensures kept { IfErr result (λ f. AllByRecursion (IsConfirmed K.sessions f.1) (manager ∷ sessions.items)) }
     ensures same { IfErr result (λ f. (f.2 ≡ manager) × (f.3.items ≡ sessions.items)) }
 {
-    let (grid, mut under_lock) = host.into_parts();
+    let (grid, under_lock) = host.into_parts();
     if !are_all(sessions.as_slice(), under_lock.sessions()) {
         return Err(refused(
             rt,
@@ -101,13 +101,31 @@ pub fn gather<K: Hosting, R: Wait>(
     let Ok(slots) = empty_lists(alloc, under_lock.sessions()) else {
         return Err(refused(rt, GatherFault::Memory, grid, under_lock, manager, sessions));
     };
+    Ok(settle(rt, under_lock, manager, sessions, slots))
+}
+
+// What a host comes to with its manager and all its sessions, whose receipts go to these lists.
+fn settle<K: Hosting, R: Wait>(
+    rt: &R,
+    under_lock: UnderLock<K>,
+    manager: Manager<K>,
+    sessions: Vec<Session<K>>,
+    slots: Vec<Receipts>,
+) -> Settled
+    requires all { has_all K.sessions sessions.items ≡ true }
+    requires slots { length slots.items ≡ K.sessions + 1 }
+    ensures headline { Headline K.grid K.cap K.sessions result.journal result.receipts result.totals }
+    ensures handed { AllByRecursion (IsConfirmed K.sessions result.journal) (manager ∷ sessions.items) }
+    ensures number { manager.id ≡ 0 }
+{
+    let mut under_lock = under_lock;
     let totals = under_lock.totals();
     let items = settle_all(rt, &mut under_lock, manager, sessions, slots);
-    Ok(Settled {
+    Settled {
         journal: under_lock.end(rt),
         totals,
         receipts: AllReceipts::from_vec(items),
-    })
+    }
 }
 
 // Hands all back, after the host has confirmed the manager and each session.
@@ -171,7 +189,9 @@ fn empty_lists(alloc: Global, sessions: u8) -> Result<Vec<Receipts>, Memory>
 {
     let mut lists = Vec::new(alloc);
     for _number in 0..usize::from(sessions) + 1 {
-        lists.push(Receipts::new(alloc))?;
+        let Ok(()) = lists.push(Receipts::new(alloc)) else {
+            return Err(Memory);
+        };
     }
     Ok(lists)
 }

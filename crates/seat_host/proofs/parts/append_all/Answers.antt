@@ -6,8 +6,8 @@ pub append-requires-clause-legal : goal.append-requires-clause-legal
 append-requires-clause-legal c =
     let i = c.loop-line.line-index in
     let inside : i < length c.args.lines.now = omega arith in
-    legal_at_end c.args.publisher.now.grid c.loop-line.publisher.grid c.loop-line.publisher.visible c.loop-line.publisher.pending c.args.lines.now i c.line-item.result c.in_ok-shown.shown
-    c.requires.legal c.loop-line.invariant.grid c.loop-line.invariant.visible c.loop-line.invariant.pending inside c.line-item.is c.in_ok-shown.ensures
+    legal_at_end c.args.publisher.now.grid c.loop-line.publisher.grid c.loop-line.publisher.visible c.loop-line.publisher.pending c.args.lines.now i c.line-item.result c.in-Ok.shown
+    c.requires.legal c.loop-line.invariant.grid c.loop-line.invariant.visible c.loop-line.invariant.pending inside c.line-item.is c.in-Ok.ensures
 
 pub append-requires-clause-short : goal.append-requires-clause-short
 append-requires-clause-short c =
@@ -20,7 +20,7 @@ loop-line-preserved c =
     let i = c.loop-line.line-index in
     let inside : i < length c.args.lines.now = omega arith in
     record {
-      pending = pending_next c.loop-line.publisher.pending c.append.new.self.pending c.args.lines.now i c.line-item.result c.in_ok-shown.shown c.loop-line.invariant.pending inside c.line-item.is c.in_ok-shown.ensures c.in-Ok.ensures.pending;
+      pending = pending_next c.loop-line.publisher.pending c.append.new.self.pending c.args.lines.now i c.line-item.result c.in-Ok.shown c.loop-line.invariant.pending inside c.line-item.is c.in-Ok.ensures c.in-Ok-append.ensures.pending;
       visible = c.append.ensures.same.2 ∙ c.loop-line.invariant.visible;
       book = c.append.ensures.same.0 ∙ c.loop-line.invariant.book;
       grid = c.append.ensures.same.1 ∙ c.loop-line.invariant.grid;

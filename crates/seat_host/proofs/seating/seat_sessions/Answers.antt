@@ -4,9 +4,9 @@ use Rattle.seat_host.proofs.seating.seat_sessions.Goals as goal
 
 pub loop-seated-preserved : goal.loop-seated-preserved
 loop-seated-preserved g c = record {
-  seating = c.in_ok-party.ensures.seating;
-  len = omega (arith, c.loop-seated.invariant.len, c.in_ok-party.ensures.len);
-  all = seated_more c.loop-seated.seats.items c.push.new.self.items c.in_ok-party.party c.loop-seated.seated c.args.lines.now c.loop-seated.invariant.all c.in_ok-push.ensures.items c.in_ok-party.ensures.party;
+  seating = c.in-Ok.ensures.seating;
+  len = omega (arith, c.loop-seated.invariant.len, c.in-Ok.ensures.len);
+  all = seated_more c.loop-seated.seats.items c.push.new.self.items c.in-Ok.party c.loop-seated.seated c.args.lines.now c.loop-seated.invariant.all c.in-Ok-push.ensures.items c.in-Ok.ensures.party;
 }
 
 pub seat_next-requires-clause-few : goal.seat_next-requires-clause-few

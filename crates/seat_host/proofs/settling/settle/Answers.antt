@@ -1,0 +1,28 @@
+use Rattle.std.proofs.Common.{List, ap, sym, subst, ◌∙◌, ◌∷◌}
+use Rattle.std.specs.List.{AllByRecursion}
+use Rattle.seat_journal.specs.declared.entry.Entry.{Entry}
+use Rattle.seat_rules.specs.Totals.{totals_of}
+use Rattle.seat_rules.specs.Histories.{by_session}
+use Rattle.seat_host.specs.Settling.{IsConfirmed}
+use Rattle.seat_host.proofs.Agreeing.{headline_of}
+use Rattle.seat_host.proofs.settling.settle.Goals as goal
+
+pub settle_all-items-requires-clause-all : goal.settle_all-items-requires-clause-all
+settle_all-items-requires-clause-all g c = c.requires.all
+
+pub settle_all-items-requires-clause-slots : goal.settle_all-items-requires-clause-slots
+settle_all-items-requires-clause-slots g c = c.requires.slots
+
+pub returns-clause-headline : goal.returns-clause-headline
+returns-clause-headline g c =
+    let same = sym c.settle_all-items.ensures.same in
+    headline_of _ _ _ _ _ _ _ c.end.ensures.legal c.end.ensures.capped c.end.ensures.within c.end.ensures.few
+    (c.from_vec.ensures ∙ c.settle_all-items.ensures.receipts ∙ ap (by_session g.K.Hosting.sessions) same) (c.totals-totals.ensures ∙ ap totals_of same) c.end.ensures.journal
+
+pub returns-clause-handed : goal.returns-clause-handed
+returns-clause-handed g c =
+    subst (λ (journal : List Entry). AllByRecursion (IsConfirmed g.K.Hosting.sessions journal) (c.args.manager ∷ c.args.sessions.items))
+    (sym (c.end.ensures.journal ∙ c.settle_all-items.ensures.same)) c.settle_all-items.ensures.each
+
+pub returns-clause-number : goal.returns-clause-number
+returns-clause-number g c = c.settle_all-items.ensures.number
