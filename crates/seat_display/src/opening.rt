@@ -12,7 +12,6 @@ use crate::rule::{Notes, TableWriter};
 use crate::table::{Op, Table};
 use crate::viewer::Viewer;
 use airline_base::Memory;
-use left_right::writer::Writer;
 use seat_nesting::{Counts, Grid};
 use std::alloc::Global;
 use std::sync::Wait;
@@ -29,9 +28,15 @@ pub fn open<R: Wait>(
     ensures viewers { IfOk result (λ r. (vec_len r.1 ≡ places) × All (λ v. v ≡ opened r.0.book grid.now) r.1.items) }
 {
     let (head, seen) = open_book();
-    let first = empty(alloc, grid, &seen)?;
-    let second = empty(alloc, grid, &seen)?;
-    let mut writer: TableWriter = Writer::new(alloc, first, second, usize::from(places))?;
+    let Ok(first) = empty(alloc, grid, &seen) else {
+        return Err(Memory);
+    };
+    let Ok(second) = empty(alloc, grid, &seen) else {
+        return Err(Memory);
+    };
+    let Ok(mut writer) = TableWriter::new(alloc, first, second, usize::from(places)) else {
+        return Err(Memory);
+    };
     match fill(rt, alloc, &mut writer, &seen, places) {
         Ok(viewers) => Ok((Publisher::over(writer, head, seen), viewers)),
         Err(Memory) => {
@@ -48,7 +53,9 @@ fn empty(alloc: Global, grid: &Grid, seen: &Trace) -> Result<Table, Memory>
     ensures empty { IfOk result (λ t. IsEmptyTable t grid.now seen.now.book) }
     ensures seen { IfOk result (λ t. t.seen ≡ seen.now) }
 {
-    let counts = Counts::new(alloc, grid)?;
+    let Ok(counts) = Counts::new(alloc, grid) else {
+        return Err(Memory);
+    };
     Ok(Table {
         counts,
         lines: 0,
@@ -76,8 +83,12 @@ fn fill<R: Wait>(
     ensures viewers { IfOk result (λ v. (vec_len v ≡ places)
         × All (λ w. w ≡ opened seen.now.book (limits_of writer.old.desk.shown.value.counts)) v.items) }
 {
-    warm(rt, writer, seen)?;
-    warm(rt, writer, seen)?;
+    let Ok(()) = warm(rt, writer, seen) else {
+        return Err(Memory);
+    };
+    let Ok(()) = warm(rt, writer, seen) else {
+        return Err(Memory);
+    };
     hand_out(alloc, writer, seen, places)
 }
 
@@ -94,8 +105,12 @@ fn warm<R: Wait>(rt: &R, writer: &mut TableWriter, seen: &Trace) -> Result<(), M
         × ((view writer.new.desk.place).grid ≡ limits_of writer.old.desk.shown.value.counts)
         × ((view writer.new.desk.place).seen.book ≡ seen.now.book)) }
 {
-    mark(writer, seen)?;
-    mark(writer, seen)?;
+    let Ok(()) = mark(writer, seen) else {
+        return Err(Memory);
+    };
+    let Ok(()) = mark(writer, seen) else {
+        return Err(Memory);
+    };
     turn(rt, writer);
     Ok(())
 }
@@ -128,7 +143,12 @@ fn hand_out(
 {
     let mut viewers = Vec::new(alloc);
     for _place in 0..places {
-        viewers.push(seat(writer, seen)?)?;
+        let Ok(viewer) = seat(writer, seen) else {
+            return Err(Memory);
+        };
+        let Ok(()) = viewers.push(viewer) else {
+            return Err(Memory);
+        };
     }
     Ok(viewers)
 }
@@ -142,7 +162,9 @@ fn seat(writer: &mut TableWriter, seen: &Trace) -> Result<Viewer, Memory>
         × (writer.new.behind ≡ writer.old.behind) × (view writer.new.desk.place ≡ view writer.old.desk.place) }
     ensures viewer { IfOk result (λ v. v ≡ opened seen.now.book (view writer.old.desk.place).grid) }
 {
-    let mut reader = writer.factory().reader()?;
+    let Ok(mut reader) = writer.factory().reader() else {
+        return Err(Memory);
+    };
     reader.learn::<Notes>(writer.tell::<Notes>());
     Ok(Viewer::over(reader, seen))
 }

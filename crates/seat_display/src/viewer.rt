@@ -55,7 +55,6 @@ impl Model for Sight {
 
 impl Sight {
     /// The seats that are left on a place in a class after all that is seen, under the limits at that point.
-    #[tactic(auto, using(crate::proofs::Steps::room_shown))]
     pub fn room(&self, place: Place, class: Class) -> u16
         ensures { result ≡ room_left (replay self.now.grid self.now.front) place class }
     {
@@ -97,7 +96,10 @@ impl Viewer {
         ensures none { IfNone result (self.new ≡ self.old) }
         ensures same { (self.new.book ≡ self.old.book) × (self.new.grid ≡ self.old.grid) }
     {
-        let Glance { found, seen, lines } = enter(&mut self.reader, at)?;
+        let Some(glance) = enter(&mut self.reader, at) else {
+            return None;
+        };
+        let Glance { found, seen, lines } = glance;
         if lines < self.lines {
             return None;
         }

@@ -16,9 +16,9 @@ turn-requires g c =
     let g0 : Ladders = limits_of c.args.writer.now.desk.shown.value.counts in
     let old : List Op = drop c.args.writer.now.behind c.args.writer.now.log.items in
     let u : View = record { knows = true; grid = []; seen = c.args.seen.now } in
-    let same = ap (λ d. d.shown.value) (c.in_ok-mark-2.ensures.desk ∙ c.in_ok-mark.ensures.desk) in
+    let same = ap (λ d. d.shown.value) (c.in-Ok-mark.ensures.desk ∙ c.in-Ok.ensures.desk) in
     let empty = subst (λ (t : Table). IsEmptyTable t g0 c.args.seen.now.book) (sym same) c.requires.shown in
-    let is = c.in_ok-mark-2.ensures.pending ∙ ap (λ l. l ++ Mark u.seen ∷ []) c.in_ok-mark.ensures.pending in
+    let is = c.in-Ok-mark.ensures.pending ∙ ap (λ l. l ++ Mark u.seen ∷ []) c.in-Ok.ensures.pending in
     follows_warmed x g0 c.args.seen.now.book (view c.mark-2.new.writer.desk.place) u old _ empty refl c.requires.empty c.requires.plain is
 
 pub returns-clause-shown : goal.returns-clause-shown
@@ -27,9 +27,9 @@ returns-clause-shown g c =
     let g0 : Ladders = limits_of c.args.writer.now.desk.shown.value.counts in
     let old : List Op = drop c.args.writer.now.behind c.args.writer.now.log.items in
     let u : View = record { knows = true; grid = []; seen = c.args.seen.now } in
-    let same = ap (λ d. d.shown.value) (c.in_ok-mark-2.ensures.desk ∙ c.in_ok-mark.ensures.desk) in
+    let same = ap (λ d. d.shown.value) (c.in-Ok-mark.ensures.desk ∙ c.in-Ok.ensures.desk) in
     let empty = subst (λ (t : Table). IsEmptyTable t g0 c.args.seen.now.book) (sym same) c.requires.shown in
-    let is = c.in_ok-mark-2.ensures.pending ∙ ap (λ l. l ++ Mark u.seen ∷ []) c.in_ok-mark.ensures.pending in
+    let is = c.in-Ok-mark.ensures.pending ∙ ap (λ l. l ++ Mark u.seen ∷ []) c.in-Ok.ensures.pending in
     empty_as _ _ _ _ c.turn.ensures.values.0 (warmed x g0 c.args.seen.now.book u old _ empty refl c.requires.empty c.requires.plain is)
 
 pub returns-clause-knows : goal.returns-clause-knows
@@ -39,9 +39,9 @@ returns-clause-knows g c =
     let g0 : Ladders = limits_of c.args.writer.now.desk.shown.value.counts in
     let old : List Op = drop c.args.writer.now.behind c.args.writer.now.log.items in
     let u : View = record { knows = true; grid = []; seen = c.args.seen.now } in
-    let same = ap (λ d. d.shown.value) (c.in_ok-mark-2.ensures.desk ∙ c.in_ok-mark.ensures.desk) in
+    let same = ap (λ d. d.shown.value) (c.in-Ok-mark.ensures.desk ∙ c.in-Ok.ensures.desk) in
     let empty = subst (λ (t : Table). IsEmptyTable t g0 c.args.seen.now.book) (sym same) c.requires.shown in
-    let is = c.in_ok-mark-2.ensures.pending ∙ ap (λ l. l ++ Mark u.seen ∷ []) c.in_ok-mark.ensures.pending in
+    let is = c.in-Ok-mark.ensures.pending ∙ ap (λ l. l ++ Mark u.seen ∷ []) c.in-Ok.ensures.pending in
     let now = empty_as y _ g0 c.args.seen.now.book c.turn.ensures.values.0 (warmed x g0 c.args.seen.now.book u old _ empty refl c.requires.empty c.requires.plain is) in
     let sees = c.turn.ensures.sees in
     (sees.known.0, grid_of_empty y _ sees.leaves now.none ∙ now.limits, sees.known.1 ∙ now.book_is)
