@@ -326,9 +326,7 @@ pub fn open_ledgers<K: Hosting>(
         staked(AnyShare::One(Whole::of(share_one))),
         staked(AnyShare::Zero(Whole::of(share_zero))),
     ];
-    let Ok(rest) = Vec::from_array(alloc, stakes) else {
-        return Err(Memory);
-    };
+    let rest = Vec::from_array(alloc, stakes)?;
     Ok((line_counts, Stakes { rest, next: 0 }))
 }
 

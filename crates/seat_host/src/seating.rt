@@ -98,9 +98,7 @@ fn seat_sessions<K: Hosting>(
         ) else {
             return Err(Memory);
         };
-        let Ok(()) = seats.push(Session { party }) else {
-            return Err(Memory);
-        };
+        seats.push(Session { party })?;
     }
     Ok(seats)
 }

@@ -189,9 +189,7 @@ fn empty_lists(alloc: Global, sessions: u8) -> Result<Vec<Receipts>, Memory>
 {
     let mut lists = Vec::new(alloc);
     for _number in 0..usize::from(sessions) + 1 {
-        let Ok(()) = lists.push(Receipts::new(alloc)) else {
-            return Err(Memory);
-        };
+        lists.push(Receipts::new(alloc))?;
     }
     Ok(lists)
 }

@@ -6,7 +6,7 @@ pub loop-seated-preserved : goal.loop-seated-preserved
 loop-seated-preserved g c = record {
   seating = c.in-Ok.ensures.seating;
   len = omega (arith, c.loop-seated.invariant.len, c.in-Ok.ensures.len);
-  all = seated_more c.loop-seated.seats.items c.push.new.self.items c.in-Ok.party c.loop-seated.seated c.args.lines.now c.loop-seated.invariant.all c.in-Ok-push.ensures.items c.in-Ok.ensures.party;
+  all = seated_more c.loop-seated.seats.items c.push.new.self.items c.in-Ok.party c.loop-seated.seated c.args.lines.now c.loop-seated.invariant.all c.in_ok-push.ensures.items c.in-Ok.ensures.party;
 }
 
 pub seat_next-requires-clause-few : goal.seat_next-requires-clause-few
