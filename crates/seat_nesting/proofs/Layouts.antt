@@ -30,16 +30,6 @@ pub found_at : (shared : List Steps) (i : ℕ) (found steps : Steps) → i < len
     → found ≡ get_or shared i found → found ≡ steps → steps_at shared i ≡ steps
 found_at shared i found steps lt is same = ap (λ (o : Option Steps). unwrap_or o []) (slice_get-get_or shared i found lt) ∙ sym is ∙ same
 
--- a step more that is the same
-pub same_next : (left right : Steps) (i : ℕ) (a b : Step) → take i left ≡ take i right → i < length left
-    → i < length right → a ≡ get_or left i a → b ≡ get_or right i b → a ≡ b → take (i + 1) left ≡ take (i + 1) right
-same_next left right i a b h lt less is are same =
-    take_more left i a lt ∙ ap (λ (s : Steps). s ++ get_or left i a ∷ []) h ∙ ap (λ (s : Step). take i right ++ s ∷ []) (sym is ∙ same ∙ are) ∙ sym (take_more right i b less)
-
-pub same_all : (left right : Steps) (i : ℕ) → take i left ≡ take i right → length left ≤ i → length left ≡ length right
-    → left ≡ right
-same_all left right i h past same = sym (take_all i left past) ∙ h ∙ take_all i right (omega (arith, past, same))
-
 pub grows_none : (shared : List Steps) → Grows shared shared
 grows_none shared = record { longer = omega arith; same = λ i lt. refl }
 

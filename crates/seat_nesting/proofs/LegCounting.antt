@@ -1,6 +1,6 @@
 -- The counters of one leg.
 use Rattle.std.proofs.Common.{◌≡◌, ◌≢◌, ◌==◌, ℕ, zero, suc, ◌+◌, ◌-◌, ◌<◌, ◌≤◌, Bool, true, false, if◌then◌else◌, cond, ◌||◌, not, nat_lt, List, [], ◌∷◌, length, drop, get_or, set, Option, Some, None, refl, ap, sym, subst, ◌∙◌, arith}
-use Rattle.std.specs.Prelude.{IfSome, IfNone}
+use Rattle.std.specs.Prelude.{IfSome, IfNone, is_some}
 use Rattle.std.specs.List.{AllByRecursion, list_all, list_any, position, position_or_len}
 use Rattle.std.proofs.lemmas.Bool.{eqb-true, eqb-false, eq-eqb, ne_eqb, and_parts, or_parts}
 use Rattle.std.proofs.lemmas.List.{drop_all, length-set}
@@ -336,6 +336,11 @@ pub none_rank : (steps : Steps) (class : ℕ) (o : Option ℕ) → o ≡ positio
     → IfNone o (has_class steps class ≡ false)
 none_rank steps class None e = no_rank steps class (sym e)
 none_rank steps class (Some rank) e = tt
+
+pub rank_tells : (steps : Steps) (class : ℕ) (o : Option ℕ) → o ≡ position (λ s. class == s.class) steps
+    → is_some o ≡ has_class steps class
+rank_tells steps class None e = sym (no_rank steps class (sym e))
+rank_tells steps class (Some rank) e = sym (is_rank steps class rank (sym e)).there
 
 -- in no rank none is held
 pub held_past : (seats : ByClass) (steps : Steps) (rank : ℕ) → length steps ≤ rank

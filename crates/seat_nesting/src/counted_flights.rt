@@ -66,7 +66,9 @@ impl CountedFlights {
         ensures found { IfSome result (λ l. record { limits = l.0; held = l.1.now } ≡ counted_at self.now flight leg) }
         ensures none { IfNone result (counted_at self.now flight leg ≡ no_counted) }
     {
-        let i = leg_index(&self.flights, flight, leg)?;
+        let Some(i) = leg_index(&self.flights, flight, leg) else {
+            return None;
+        };
         let part = &self.legs[i];
         Some((part.limits, held_in(&self.run, part)))
     }
@@ -115,7 +117,9 @@ impl CountedFlights {
 fn leg_index(flights: &[FlightPart], flight: u32, leg: u8) -> Option<usize>
     ensures { result ≡ leg_index flights.now flight leg }
 {
-    let part = flights.get(flight as usize)?;
+    let Some(part) = flights.get(flight as usize) else {
+        return None;
+    };
     let leg = u32::from(leg);
     if leg < part.legs {
         Some(part.first as usize + leg as usize)

@@ -7,7 +7,7 @@ ghost use Rattle.seat_nesting.specs.Changing.{can_set, has_sale, may_have, step_
 use crate::counted_flights::CountedFlights;
 use crate::grid::Grid;
 use crate::ladder::{Ladder, Step};
-use crate::laid_out::{Layout, lay_out, number};
+use crate::laid_out::{lay_out, number};
 use crate::leg_counts::LegCounts;
 use crate::setting::Setting;
 use crate::shared::SharedLadder;
@@ -44,19 +44,22 @@ impl Counts {
         ensures limits { IfOk result (λ counts. limits_of counts ≡ grid.now) }
         ensures seats { IfOk result (λ counts. (flight leg class : ℕ) → table_of counts flight leg class ≡ 0) }
     {
-        let Layout {
-            shared,
-            legs,
-            flights,
-            numbers,
-        } = lay_out(alloc, grid)?;
-        let places = number(legs.len())?;
-        let seats = no_seats(alloc, numbers)?;
-        let own = Vec::with_capacity(alloc, places as usize)?;
-        let flights = CountedFlights::of(seats, legs, flights);
+        let Ok(layout) = lay_out(alloc, grid) else {
+            return Err(Memory);
+        };
+        let Ok(places) = number(layout.legs.len()) else {
+            return Err(Memory);
+        };
+        let Ok(seats) = no_seats(alloc, layout.numbers) else {
+            return Err(Memory);
+        };
+        let Ok(own) = Vec::with_capacity(alloc, places as usize) else {
+            return Err(Memory);
+        };
+        let flights = CountedFlights::of(seats, layout.legs, layout.flights);
         Ok(Counts {
             flights,
-            shared,
+            shared: layout.shared,
             own,
         })
     }
@@ -131,7 +134,9 @@ impl Counts {
         ensures found { IfSome result (λ l. l.now ≡ ladder_at (limits_of self.now) flight leg) }
         ensures none { IfNone result (ladder_at (limits_of self.now) flight leg ≡ []) }
     {
-        let (limits, _held) = self.flights.leg(flight, leg)?;
+        let Some((limits, _seats)) = self.flights.leg(flight, leg) else {
+            return None;
+        };
         limits.ladder(&self.shared, &self.own)
     }
 
@@ -225,7 +230,9 @@ impl Counts {
         ensures found { IfSome result (λ l. l ≡ leg_at self.now flight leg) }
         ensures none { IfNone result (leg_at self.now flight leg ≡ no_leg) }
     {
-        let (limits, held) = self.flights.leg(flight, leg)?;
+        let Some((limits, held)) = self.flights.leg(flight, leg) else {
+            return None;
+        };
         Some(LegCounts::of(limits.steps(&self.shared, &self.own), held))
     }
 

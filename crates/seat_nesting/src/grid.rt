@@ -56,17 +56,17 @@ impl Grid {
     {
         // For the prover alone: a ladder says of its steps that no class stands twice.
         let _ = ladder.steps();
-        let ladder = SharedLadder::of(alloc, ladder)?;
-        let mut ladders = Vec::new(alloc);
-        if ladders.push(Some(ladder)).is_err() {
+        let Ok(ladder) = SharedLadder::of(alloc, ladder) else {
             return Err(Memory);
-        }
+        };
+        let Ok(legs) = FlightLegs::single(alloc, ladder) else {
+            return Err(Memory);
+        };
         let mut flights = Vec::new(alloc);
-        if flights.push(FlightLegs { ladders }).is_err() {
+        let Ok(()) = flights.push(legs) else {
             return Err(Memory);
-        }
-        let flights = Arc::new(alloc, flights)?;
-        Ok(Grid { flights })
+        };
+        Grid::of(alloc, flights)
     }
 
     /// A grid of the ladders of each flight's legs, none of which names a class twice.
@@ -74,7 +74,9 @@ impl Grid {
         requires distinct { HasLadders flights.items }
         ensures { IfOk result (λ grid. grid ≡ flights.items) }
     {
-        let flights = Arc::new(alloc, flights)?;
+        let Ok(flights) = Arc::new(alloc, flights) else {
+            return Err(Memory);
+        };
         Ok(Grid { flights })
     }
 
@@ -123,7 +125,10 @@ impl Grid {
         ensures found { IfSome result (λ l. l.now ≡ ladder_at self.now flight leg) }
         ensures none { IfNone result (ladder_at self.now flight leg ≡ []) }
     {
-        self.flights.get(flight as usize)?.ladder(usize::from(leg))
+        let Some(legs) = self.flights.get(flight as usize) else {
+            return None;
+        };
+        legs.ladder(usize::from(leg))
     }
 
     /// The ladder of a leg by one of its owners, where it has one.
@@ -131,7 +136,10 @@ impl Grid {
         ensures found { IfSome result (λ l. l.now ≡ ladder_at self.now flight leg) }
         ensures none { IfNone result (ladder_at self.now flight leg ≡ []) }
     {
-        self.flights.get(flight as usize)?.shared(usize::from(leg))
+        let Some(legs) = self.flights.get(flight as usize) else {
+            return None;
+        };
+        legs.shared(usize::from(leg))
     }
 
     /// The steps of a leg; none where it has no limits.
@@ -167,6 +175,17 @@ impl FlightLegs {
         ensures { result ≡ map steps_of ladders.items }
     {
         FlightLegs { ladders }
+    }
+
+    // One leg with this ladder.
+    fn single(alloc: Global, ladder: SharedLadder) -> Result<FlightLegs, Memory>
+        ensures { IfOk result (λ legs. legs ≡ ladder ∷ []) }
+    {
+        let mut ladders = Vec::new(alloc);
+        let Ok(()) = ladders.push(Some(ladder)) else {
+            return Err(Memory);
+        };
+        Ok(FlightLegs { ladders })
     }
 
     /// The ladder of each leg, where it has one.

@@ -5,6 +5,7 @@ ghost use Rattle.std.specs.List.{position};
 ghost use Rattle.std.specs.Result.{result_err};
 ghost use Rattle.seat_nesting.specs.Nesting.{IsLadder, HasLetters, has_class};
 ghost use Rattle.seat_nesting.specs.Ladders.{ladder_fault, repeats_class, is_below_next, is_rising, is_too_large};
+ghost use Rattle.seat_nesting.specs.FaultText.{ladder_code};
 ghost use Rattle.seat_nesting.specs.Changing.{closed_at, has_named, is_named, marked, with_limit, with_marks, with_sale, with_setting};
 
 use crate::setting::Setting;
@@ -52,18 +53,23 @@ pub enum LadderFault {
 
 impl fmt::Display for LadderFault {
     ghost use Rattle.std.specs.Prelude.{Some};
-    ghost use Rattle.seat_nesting.specs.FaultText.{ladder_code};
 
     ghost output = { λ fault. Some (ladder_code fault) };
 
     /// The code, L1 to L4.
     fn fmt<W: fmt::Write>(&self, f: &mut fmt::Formatter<W>) -> fmt::Result {
-        match self {
-            LadderFault::Empty => f.write_str("L1"),
-            LadderFault::RepeatedClass => f.write_str("L2"),
-            LadderFault::Rising => f.write_str("L3"),
-            LadderFault::TooLarge => f.write_str("L4"),
-        }
+        f.write_str(code_of(*self))
+    }
+}
+
+fn code_of(fault: LadderFault) -> &'static str
+    ensures { result.now ≡ ladder_code fault }
+{
+    match fault {
+        LadderFault::Empty => "L1",
+        LadderFault::RepeatedClass => "L2",
+        LadderFault::Rising => "L3",
+        LadderFault::TooLarge => "L4",
     }
 }
 
@@ -323,10 +329,11 @@ fn repeats_class(steps: &[Step]) -> bool
     false
 }
 
+#[tactic(auto, using(crate::proofs::LegCounting::rank_tells))]
 fn has_class(steps: &[Step], class: Class) -> bool
     ensures { result ≡ has_class steps.now class }
 {
-    steps.iter().any(|step| class == step.class)
+    rank_of(steps, class).is_some()
 }
 
 /// Whether a limit rises from a rank to the next lower one.

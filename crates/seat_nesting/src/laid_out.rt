@@ -26,16 +26,33 @@ pub struct Layout {
 pub fn lay_out(alloc: Global, grid: &Grid) -> Result<Layout, Memory>
     ensures { IfOk result (λ layout. IsLaid layout grid.now) }
 {
-    let mut layout = Layout {
-        shared: Vec::new(alloc),
-        legs: Vec::with_capacity(alloc, grid.flights().len())?,
-        flights: Vec::with_capacity(alloc, grid.flights().len())?,
-        numbers: 0,
+    let Ok(mut layout) = no_layout(alloc, grid.flights().len()) else {
+        return Err(Memory);
     };
     for legs in grid.flights() {
-        add_flight(&mut layout, legs)?;
+        let Ok(()) = add_flight(&mut layout, legs) else {
+            return Err(Memory);
+        };
     }
     Ok(layout)
+}
+
+/// The layout of no flight, with memory for so many of one leg each.
+fn no_layout(alloc: Global, count: usize) -> Result<Layout, Memory>
+    ensures { IfOk result (λ layout. IsLaid layout []) }
+{
+    let Ok(legs) = Vec::with_capacity(alloc, count) else {
+        return Err(Memory);
+    };
+    let Ok(flights) = Vec::with_capacity(alloc, count) else {
+        return Err(Memory);
+    };
+    Ok(Layout {
+        shared: Vec::new(alloc),
+        legs,
+        flights,
+        numbers: 0,
+    })
 }
 
 /// A number that is kept in 32 bits.
@@ -55,10 +72,16 @@ fn add_flight(layout: &mut Layout, legs: &FlightLegs) -> Result<(), Memory>
     ensures flights { OnOk result (layout.new.flights.items ≡ layout.old.flights.items
         ++ (record { first = length layout.old.legs.items; legs = length legs.now }) ∷ []) }
 {
-    let first = number(layout.legs.len())?;
-    let count = number(legs.ladders().len())?;
+    let Ok(first) = number(layout.legs.len()) else {
+        return Err(Memory);
+    };
+    let Ok(count) = number(legs.ladders().len()) else {
+        return Err(Memory);
+    };
     for ladder in legs.ladders() {
-        add_leg(layout, ladder)?;
+        let Ok(()) = add_leg(layout, ladder) else {
+            return Err(Memory);
+        };
     }
     push_flight(layout, first, count)
 }
@@ -70,7 +93,9 @@ fn push_flight(layout: &mut Layout, first: u32, legs: u32) -> Result<(), Memory>
     ensures others { OnOk result ((layout.new.shared.items ≡ layout.old.shared.items)
         × (layout.new.legs.items ≡ layout.old.legs.items) × (layout.new.numbers ≡ layout.old.numbers)) }
 {
-    layout.flights.push(FlightPart { first, legs })?;
+    let Ok(()) = layout.flights.push(FlightPart { first, legs }) else {
+        return Err(Memory);
+    };
     Ok(())
 }
 
@@ -83,7 +108,9 @@ fn add_leg(layout: &mut Layout, ladder: &Option<SharedLadder>) -> Result<(), Mem
         return push_leg(layout, Limits::Absent, 0);
     };
     let ranks = ladder.get().steps().len() as u8;
-    let i = share(&mut layout.shared, ladder)?;
+    let Ok(i) = share(&mut layout.shared, ladder) else {
+        return Err(Memory);
+    };
     push_leg(layout, Limits::Shared(i), ranks)
 }
 
@@ -96,12 +123,17 @@ fn push_leg(layout: &mut Layout, limits: Limits, ranks: u8) -> Result<(), Memory
     ensures flights { layout.new.flights.items ≡ layout.old.flights.items }
 {
     let start = layout.numbers;
-    let numbers = start.checked_add(u32::from(ranks)).ok_or(Memory)?;
-    layout.legs.push(LegPart {
+    let Some(numbers) = start.checked_add(u32::from(ranks)) else {
+        return Err(Memory);
+    };
+    let Ok(()) = layout.legs.push(LegPart {
         start,
         ranks,
         limits,
-    })?;
+    })
+    else {
+        return Err(Memory);
+    };
     layout.numbers = numbers;
     Ok(())
 }
@@ -114,8 +146,15 @@ fn share(shared: &mut Vec<SharedLadder>, ladder: &SharedLadder) -> Result<u32, M
     if let Some(i) = find_last(shared, ladder) {
         return number(i);
     }
-    let i = number(shared.len())?;
-    shared.push(ladder.again()?)?;
+    let Ok(i) = number(shared.len()) else {
+        return Err(Memory);
+    };
+    let Ok(again) = ladder.again() else {
+        return Err(Memory);
+    };
+    let Ok(()) = shared.push(again) else {
+        return Err(Memory);
+    };
     Ok(i)
 }
 
@@ -137,27 +176,8 @@ fn find_last(shared: &[SharedLadder], ladder: &SharedLadder) -> Option<usize>
 }
 
 /// Whether the steps are the same.
-#[tactic(auto, using(crate::proofs::Layouts::same_next, crate::proofs::Layouts::same_all))]
 fn are_same(left: &[Step], right: &[Step]) -> bool
     ensures { OnTrue result (left.now ≡ right.now) }
 {
-    if left.len() != right.len() {
-        return false;
-    }
-    for i in 0..left.len() {
-        if !is_same(&left[i], &right[i]) {
-            return false;
-        }
-    }
-    true
-}
-
-fn is_same(left: &Step, right: &Step) -> bool
-    ensures { OnTrue result (left.now ≡ right.now) }
-{
-    left.class == right.class
-        && left.limit == right.limit
-        && left.wait == right.wait
-        && left.listed == right.listed
-        && left.closed == right.closed
+    left == right
 }

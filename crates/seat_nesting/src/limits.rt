@@ -29,7 +29,9 @@ impl Limits {
         match self {
             Limits::Absent => None,
             Limits::Shared(i) => {
-                let ladder = shared.get(i as usize)?;
+                let Some(ladder) = shared.get(i as usize) else {
+                    return None;
+                };
                 Some(ladder.get())
             }
             Limits::Own(i) => own.get(i as usize),

@@ -22,17 +22,17 @@ outside part leg at same more =
     let test : nat_lt leg part.legs ≡ false = grind (arith, nat_tests) in
     sym (ap (λ (b : Bool). if b then Some (part.first + leg) else None) test)
 
-pub returns-in_err-part : goal.returns-in_err-part
-returns-in_err-part c =
-    c.from_residual.ensures ∙ sym (ap (λ (o : Option FlightPart). index_on o c.args.leg)
-    (slice_get_past c.args.flights.now c.args.flight (ltb-false c.args.flight (length c.args.flights.now) (sym c.in_err-part.ensures.lookup.0))))
+pub returns-in_default : goal.returns-in_default
+returns-in_default c =
+    sym (ap (λ (o : Option FlightPart). index_on o c.args.leg)
+    (slice_get_past c.args.flights.now c.args.flight (ltb-false c.args.flight (length c.args.flights.now) (sym c.in_default.ensures.lookup.0))))
 
 pub returns-then-leg-part : goal.returns-then-leg-part
 returns-then-leg-part c =
-    inside c.in_ok-part.part.now c.args.leg c.from-leg.result c.from-leg.ensures c.if-leg-part.true
-    ∙ sym (found c.args.flights.now c.args.flight c.args.leg c.in_ok-part.part.now c.in_ok-part.ensures.lookup.0 c.in_ok-part.ensures.lookup.1)
+    inside c.in-Some.part.now c.args.leg c.from-leg.result c.from-leg.ensures c.if-leg-part.true
+    ∙ sym (found c.args.flights.now c.args.flight c.args.leg c.in-Some.part.now c.in-Some.ensures.lookup.0 c.in-Some.ensures.lookup.1)
 
 pub returns-else-leg-part : goal.returns-else-leg-part
 returns-else-leg-part c =
-    outside c.in_ok-part.part.now c.args.leg c.from-leg.result c.from-leg.ensures c.if-leg-part.false
-    ∙ sym (found c.args.flights.now c.args.flight c.args.leg c.in_ok-part.part.now c.in_ok-part.ensures.lookup.0 c.in_ok-part.ensures.lookup.1)
+    outside c.in-Some.part.now c.args.leg c.from-leg.result c.from-leg.ensures c.if-leg-part.false
+    ∙ sym (found c.args.flights.now c.args.flight c.args.leg c.in-Some.part.now c.in-Some.ensures.lookup.0 c.in-Some.ensures.lookup.1)

@@ -7,8 +7,8 @@ loop-ladder-init c = record { adds = adds_none c.args.layout.now; flights = refl
 
 pub loop-ladder-preserved : goal.loop-ladder-preserved
 loop-ladder-preserved c = record {
-  adds = adds_more c.args.layout.now c.loop-ladder.layout c.add_leg.new.layout c.ladders-ladder-items.result.now c.loop-ladder.ladder-index c.ladder-item.result c.loop-ladder-test.true c.ladder-item.is c.loop-ladder.invariant.adds c.in_ok-add_leg.ensures.legs;
-  flights = c.in_ok-add_leg.ensures.flights ∙ c.loop-ladder.invariant.flights;
+  adds = adds_more c.args.layout.now c.loop-ladder.layout c.add_leg.new.layout c.ladders-ladder-items.result.now c.loop-ladder.ladder-index c.ladder-item.result c.loop-ladder-test.true c.ladder-item.is c.loop-ladder.invariant.adds c.in-Ok-add_leg.ensures.legs;
+  flights = c.in-Ok-add_leg.ensures.flights ∙ c.loop-ladder.invariant.flights;
 }
 
 pub returns-clause-legs : goal.returns-clause-legs
@@ -17,6 +17,6 @@ returns-clause-legs c =
 
 pub returns-clause-flights : goal.returns-clause-flights
 returns-clause-flights c =
-    let first : c.in_ok-first.first ≡ length c.args.layout.now.legs.items = omega (arith, c.in_ok-first.ensures.value, c.len.ensures, c.args.layout.now.legs.ok) in
-    let count : c.in_ok-count.count ≡ length c.ladders.result.now = omega (arith, c.in_ok-count.ensures.value) in
-    flight_told c.push_flight.result c.args.layout.now c.loop-ladder.layout c.push_flight.new.layout c.ladders.result.now c.args.legs.now c.in_ok-first.first c.in_ok-count.count c.loop-ladder.invariant.flights first count c.ladders.ensures c.push_flight.ensures.flights
+    let first : c.in-Ok.first ≡ length c.args.layout.now.legs.items = omega (arith, c.in-Ok.ensures.value, c.len.ensures, c.args.layout.now.legs.ok) in
+    let count : c.in-Ok-number.count ≡ length c.ladders.result.now = omega (arith, c.in-Ok-number.ensures.value) in
+    flight_told c.push_flight.result c.args.layout.now c.loop-ladder.layout c.push_flight.new.layout c.ladders.result.now c.args.legs.now c.in-Ok.first c.in-Ok-number.count c.loop-ladder.invariant.flights first count c.ladders.ensures c.push_flight.ensures.flights

@@ -38,10 +38,10 @@ pub returns-in-Some-clause-there : goal.returns-in-Some-clause-there
 returns-in-Some-clause-there c = found_there c.number.result c.args.shared.now.items c.deref.result.now c.in-Some.i c.args.ladder.now c.deref.ensures.value c.number.ensures.value c.in-Some.ensures
 
 pub returns-clause-grows : goal.returns-clause-grows
-returns-clause-grows c = subst (λ (s : List Steps). Grows c.args.shared.now.items s) (sym c.in_ok-push.ensures.items) (grows_one c.args.shared.now.items c.in_ok-again.field-0)
+returns-clause-grows c = subst (λ (s : List Steps). Grows c.args.shared.now.items s) (sym c.in-Ok-push.ensures.items) (grows_one c.args.shared.now.items c.in-Ok-again.again)
 
 pub returns-clause-there : goal.returns-clause-there
 returns-clause-there c =
-    let at : c.in_ok-i.i ≡ length c.args.shared.now.items = omega (arith, c.in_ok-i.ensures.value, c.len.ensures, c.args.shared.now.ok) in
-    subst (λ (s : List Steps). (c.in_ok-i.i < length s) × (steps_at s c.in_ok-i.i ≡ c.args.ladder.now)) (sym {A = List Steps} c.in_ok-push.ensures.items)
-    (there_one c.args.shared.now.items c.in_ok-again.field-0 c.args.ladder.now c.in_ok-i.i at c.in_ok-again.ensures)
+    let at : c.in-Ok.i ≡ length c.args.shared.now.items = omega (arith, c.in-Ok.ensures.value, c.len.ensures, c.args.shared.now.ok) in
+    subst (λ (s : List Steps). (c.in-Ok.i < length s) × (steps_at s c.in-Ok.i ≡ c.args.ladder.now)) (sym {A = List Steps} c.in-Ok-push.ensures.items)
+    (there_one c.args.shared.now.items c.in-Ok-again.again c.args.ladder.now c.in-Ok.i at c.in-Ok-again.ensures)

@@ -9,9 +9,9 @@ returns-clause-found c =
     let flight = c.args.flight in
     let leg = c.args.leg in
     let flights : Ladders = c.deref-2.result.now in
-    let legs : List Steps = c.in_ok-get.field-0.now in
+    let legs : List Steps = c.in-Some.legs.now in
     let same : flights ≡ c.args.self.now = c.deref-2.ensures.value ∙ (ap (λ v. v.items) c.deref.ensures ∙ c.self.view_is) in
-    let found : legs_of c.args.self.now flight ≡ legs = legs_there flights c.args.self.now flight legs same c.in_ok-get.ensures.lookup.0 c.in_ok-get.ensures.lookup.1 in
+    let found : legs_of c.args.self.now flight ≡ legs = legs_there flights c.args.self.now flight legs same c.in-Some.ensures.lookup.0 c.in-Some.ensures.lookup.1 in
     let steps : steps_at legs c.from.result ≡ ladder_at c.args.self.now flight leg = ap (steps_at legs) c.from.ensures ∙ ap (λ (ls : List Steps). steps_at ls leg) (sym found) in
     subst (λ (s : Steps). IfSome c.ladder.result (λ l. l.now ≡ s)) steps c.ladder.ensures.found
 
@@ -20,8 +20,8 @@ returns-clause-none c =
     let flight = c.args.flight in
     let leg = c.args.leg in
     let flights : Ladders = c.deref-2.result.now in
-    let legs : List Steps = c.in_ok-get.field-0.now in
+    let legs : List Steps = c.in-Some.legs.now in
     let same : flights ≡ c.args.self.now = c.deref-2.ensures.value ∙ (ap (λ v. v.items) c.deref.ensures ∙ c.self.view_is) in
-    let found : legs_of c.args.self.now flight ≡ legs = legs_there flights c.args.self.now flight legs same c.in_ok-get.ensures.lookup.0 c.in_ok-get.ensures.lookup.1 in
+    let found : legs_of c.args.self.now flight ≡ legs = legs_there flights c.args.self.now flight legs same c.in-Some.ensures.lookup.0 c.in-Some.ensures.lookup.1 in
     let steps : steps_at legs c.from.result ≡ ladder_at c.args.self.now flight leg = ap (steps_at legs) c.from.ensures ∙ ap (λ (ls : List Steps). steps_at ls leg) (sym found) in
     subst (λ (s : Steps). IfNone c.ladder.result (s ≡ [])) steps c.ladder.ensures.none
