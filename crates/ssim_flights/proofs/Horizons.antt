@@ -47,10 +47,10 @@ module _ (plan : Plan) (leg : Scheduled) (ahead within count : ℕ) (before : Ar
       none_behind end (omega arith) (omega arith) ∙ ap (filter test) (range_parts 0 begin (end - begin) end begin (omega arith) (omega arith)) ∙ filter-append test (range_with_len 0 begin) middle
       ∙ ap (λ xs. xs ++ filter test middle) (none_ahead begin e) ∙ all
 
-  pub rows_are : (first : Scheduled) (rest legs : List Scheduled) (begin end i : ℕ) (list : List ℕ) → first ≡ leg
+  pub rows_are : (first : Scheduled) (rest legs : List Scheduled) (begin end : ℕ) → first ≡ leg
       → legs ≡ first ∷ rest → count ≡ shortest (length first.operations) rest → begin ≡ min ahead count
-      → end ≡ max (min within count) begin → i ≡ end → list ≡ range_with_len begin (i - begin) → list ≡ rows plan legs
+      → end ≡ max (min within count) begin → range_with_len begin (end - begin) ≡ rows plan legs
   unfolding rows
-  rows_are first rest legs begin end i list same parts n e f g h =
-      h ∙ ap (λ k. range_with_len begin (k - begin)) g ∙ sym (between begin end e f) ∙ ap (λ k. filter (λ i. is_in_horizon plan (day_at leg i)) (range_with_len 0 k)) n
+  rows_are first rest legs begin end same parts n e f =
+      sym (between begin end e f) ∙ ap (λ k. filter (λ i. is_in_horizon plan (day_at leg i)) (range_with_len 0 k)) n
       ∙ ap (λ (l : Scheduled). filter (λ i. is_in_horizon plan (day_at l i)) (range_with_len 0 (shortest (length first.operations) rest))) (sym same) ∙ ap (rows plan) (sym parts)

@@ -1,5 +1,5 @@
 //! Adding the flights of one itinerary to those of the earlier ones.
-ghost use Rattle.std.specs.Prelude.{◌≡◌, ◌+◌, ◌≤◌, ◌<◌, ◌^◌, nat_lt, All, Err, IfErr, OnOk, Some, length};
+ghost use Rattle.std.specs.Prelude.{◌≡◌, ◌+◌, ◌≤◌, nat_lt, All, Err, IfErr, OnOk, Some, length};
 ghost use Rattle.std.specs.List.{list_any};
 ghost use Rattle.ssim_flights.specs.LegChains.{first_record_if};
 ghost use Rattle.ssim_flights.specs.Adding.{IsAdded, IsChainAdded};
@@ -13,7 +13,7 @@ use crate::fault::{FlightFault, FlightKind};
 use crate::flight::Flight;
 use crate::flown::{Departure, fly_all, is_taken, take_all};
 use crate::plan::Plan;
-use crate::rows::{differing, falling_back, rows};
+use crate::rows::{RowRange, differing, falling_back, rows};
 use crate::schedule::{Scheduled, schedule};
 use ssim_records::Leg;
 use std::alloc::Global;
@@ -77,21 +77,18 @@ fn add_chain(
     ensures fault { IfErr result (λ fault. IsRefusal fault
         (days_fault plan.now (has_departure flown.old.taken) (length flown.old.flights.items) legs.now chained.now)) }
 {
-    let Ok(list) = rows(alloc, plan, chained) else {
-        return Err(FlightFault::of_memory());
-    };
-    let indices = list.as_slice();
-    if let Some(fault) = days_fault(plan, flown, legs, chained, indices) {
+    let indices = rows(plan, chained);
+    if let Some(fault) = days_fault(plan, flown, legs, chained, &indices) {
         return Err(fault);
     }
     let Some((first, _rest)) = chained.split_first() else {
         return Ok(());
     };
     let flights = &mut flown.flights;
-    let Ok(()) = fly_all(alloc, flights, plan, &first.leg, chained, indices) else {
+    let Ok(()) = fly_all(alloc, flights, plan, &first.leg, chained, &indices) else {
         return Err(FlightFault::of_memory());
     };
-    let Ok(()) = take_all(&mut flown.taken, first, indices) else {
+    let Ok(()) = take_all(&mut flown.taken, first, &indices) else {
         return Err(FlightFault::of_memory());
     };
     Ok(())
@@ -104,7 +101,7 @@ fn days_fault(
     flown: &Flown,
     legs: &[Leg],
     chained: &[Scheduled],
-    indices: &[usize],
+    indices: &RowRange,
 ) -> Option<FlightFault>
     requires { indices.now ≡ rows plan.now chained.now }
     ensures { result
@@ -140,7 +137,7 @@ fn twice_on_date(
     plan: &Plan,
     taken: &HashSet<Departure>,
     chained: &[Scheduled],
-    indices: &[usize],
+    indices: &RowRange,
 ) -> Option<u32>
     requires { indices.now ≡ rows plan.now chained.now }
     ensures { result
@@ -172,17 +169,16 @@ fn too_many_flights(
     plan: &Plan,
     count: usize,
     chained: &[Scheduled],
-    indices: &[usize],
+    indices: &RowRange,
 ) -> Option<u32>
-    requires indices { indices.now ≡ rows plan.now chained.now }
-    requires small { count < 2 ^ 63 }
+    requires { indices.now ≡ rows plan.now chained.now }
     ensures { result ≡ leg_one_if (nat_lt plan.now.most (count + length (flights_on plan.now chained.now)))
         chained.now }
 {
     let Some((first, _rest)) = chained.split_first() else {
         return None;
     };
-    if count + indices.len() > plan.most as usize {
+    if count.saturating_add(indices.len()) > plan.most as usize {
         Some(first.leg.serial)
     } else {
         None

@@ -7,7 +7,7 @@ ghost use Rattle.ssim_flights.specs.Taken.{has_departure, Takes};
 
 use crate::flight::{DatedLegs, Flight};
 use crate::plan::Plan;
-use crate::rows::flight_on;
+use crate::rows::{RowRange, flight_on};
 use crate::schedule::Scheduled;
 use airline_base::{Airline, Day, Memory};
 use ssim_records::Leg;
@@ -34,12 +34,12 @@ fn departure_on(leg: &Scheduled, i: usize) -> Departure
 }
 
 /// Whether one of the rows departs as an earlier flight does.
-pub(crate) fn is_taken(taken: &HashSet<Departure>, first: &Scheduled, rows: &[usize]) -> bool
+pub(crate) fn is_taken(taken: &HashSet<Departure>, first: &Scheduled, rows: &RowRange) -> bool
     requires { All (λ i. i < length first.now.operations) rows.now }
     ensures { result ≡ list_any (has_departure taken.now) (map (departure first.now) rows.now) }
 {
-    for i in rows {
-        if taken.contains(&departure_on(first, *i)) {
+    for k in 0..rows.len() {
+        if taken.contains(&departure_on(first, rows.at(k))) {
             return true;
         }
     }
@@ -50,13 +50,13 @@ pub(crate) fn is_taken(taken: &HashSet<Departure>, first: &Scheduled, rows: &[us
 pub(crate) fn take_all(
     taken: &mut HashSet<Departure>,
     first: &Scheduled,
-    rows: &[usize],
+    rows: &RowRange,
 ) -> Result<(), Memory>
     requires { All (λ i. i < length first.now.operations) rows.now }
     ensures { OnOk result (Takes taken.old taken.new (map (departure first.now) rows.now)) }
 {
-    for i in rows {
-        let Ok(()) = take(taken, departure_on(first, *i)) else {
+    for k in 0..rows.len() {
+        let Ok(()) = take(taken, departure_on(first, rows.at(k))) else {
             return Err(Memory);
         };
     }
@@ -79,14 +79,14 @@ pub(crate) fn fly_all(
     plan: &Plan,
     first: &Leg,
     legs: &[Scheduled],
-    rows: &[usize],
+    rows: &RowRange,
 ) -> Result<(), Memory>
     requires { All (Reaches legs.now) rows.now }
     ensures { OnOk result
         (flights.new.items ≡ flights.old.items ++ map (flight_on plan.now first.now legs.now) rows.now) }
 {
-    for i in rows {
-        let Ok(flight) = flight_on(alloc, plan, first, legs, *i) else {
+    for k in 0..rows.len() {
+        let Ok(flight) = flight_on(alloc, plan, first, legs, rows.at(k)) else {
             return Err(Memory);
         };
         let _airline: &Airline = &flight.airline;

@@ -21,7 +21,6 @@ mod schedule;
 mod served;
 mod slots;
 
-pub use days::Days;
 pub use expansion::expand;
 pub use fault::{FlightFault, FlightKind};
 pub use flight::{DatedLeg, DatedLegs, Flight, Wanted};

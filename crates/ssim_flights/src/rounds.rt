@@ -1,13 +1,12 @@
 //! The operating days of a leg by rounds of one or two weeks: any of them is found without those before it.
-ghost use Rattle.std.specs.Prelude.{◌≡◌, ◌≤◌, ◌<◌, nat_lt, IfOk, filter, length, slice_index};
+ghost use Rattle.std.specs.Prelude.{◌≡◌, ◌≤◌, ◌<◌, nat_lt, filter, length, slice_index};
 ghost use Rattle.ssim_flights.specs.Operating.{days_among, operating_days};
 ghost use Rattle.ssim_flights.specs.Right.{IsRightLeg};
 ghost use Rattle.ssim_flights.specs.Rounds.{AreBefore, round_days};
 
-use crate::days::{Days, days_among, days_of_period};
-use airline_base::{Day, Memory};
+use crate::days::{RoundDays, days_among, days_of_period};
+use airline_base::Day;
 use ssim_records::Leg;
-use std::alloc::Global;
 use std::marker::Model;
 
 /// The days of a leg's period on which it operates.
@@ -17,7 +16,7 @@ pub(crate) struct Rounds {
     /// The day that stands for an open end of its period.
     end: Day,
     /// Those of the first round.
-    first: Days,
+    first: RoundDays,
     count: usize,
 }
 
@@ -30,25 +29,23 @@ impl Model for Rounds {
 
     ghost view = { λ r. operating_days r.leg r.end };
 
-    ghost invariant = { λ r. AreRounds r.leg r.end r.first r.count };
+    ghost invariant = { λ r. AreRounds r.leg r.end r.first.items r.count };
 }
 
 impl Rounds {
-    pub(crate) fn of(alloc: Global, leg: &Leg, end: Day) -> Result<Rounds, Memory>
+    pub(crate) fn of(leg: &Leg, end: Day) -> Rounds
         requires right { IsRightLeg leg.now }
         requires end { end ≤ 47846 }
-        ensures { IfOk result (λ days. days ≡ operating_days leg.now end) }
+        ensures { result ≡ operating_days leg.now end }
     {
-        let Ok(first) = days_among(alloc, leg, round_days(leg.second_week)) else {
-            return Err(Memory);
-        };
+        let first = days_among(leg, round_days(leg.second_week));
         let count = count_among(leg, first.as_slice(), days_of_period(leg, end));
-        Ok(Rounds {
+        Rounds {
             leg: *leg,
             end,
             first,
             count,
-        })
+        }
     }
 
     pub(crate) fn len(&self) -> usize
@@ -66,7 +63,8 @@ impl Rounds {
     {
         let first = self.first.as_slice();
         let past = (i / first.len()) as u32 * round_days(self.leg.second_week);
-        Day::numbered(first[i % first.len()].number() + past)
+        let number = first[i % first.len()] + past;
+        Day::numbered(number)
     }
 
     /// How many of them lie before the day with this number.
@@ -86,7 +84,7 @@ fn round_days(second_week: bool) -> u32
 }
 
 /// How many operating days there are among the first `days` days, whatever the last, from those of the first round.
-fn count_among(leg: &Leg, first: &[Day], days: u32) -> usize
+fn count_among(leg: &Leg, first: &[u32], days: u32) -> usize
     requires { first.now ≡ days_among leg.now (round_days leg.now.second_week) }
     ensures { result ≡ length (days_among leg.now days) }
 {
@@ -96,13 +94,13 @@ fn count_among(leg: &Leg, first: &[Day], days: u32) -> usize
 }
 
 /// How many of the days lie before the day with this number.
-fn days_before(days: &[Day], number: u32) -> usize
+fn days_before(days: &[u32], number: u32) -> usize
     ensures value { result ≡ length (filter (λ d. nat_lt d number) days.now) }
     ensures bound { result ≤ length days.now }
 {
     let mut count = 0usize;
     for day in days {
-        if day.number() < number {
+        if *day < number {
             count += 1;
         }
     }

@@ -1,5 +1,5 @@
 //! The dated flights of one chain of legs, and what can be wrong with its days.
-ghost use Rattle.std.specs.Prelude.{◌≡◌, All, IfOk, is_none};
+ghost use Rattle.std.specs.Prelude.{◌≡◌, ◌<◌, All, IfOk, get_or, is_none, length};
 ghost use Rattle.std.specs.List.{list_any};
 ghost use Rattle.ssim_flights.specs.Schedules.{differing, falling_after, falling_at, flight_on, rows, Reaches};
 
@@ -9,29 +9,56 @@ use crate::schedule::{Scheduled, shortest};
 use airline_base::Memory;
 use ssim_records::Leg;
 use std::alloc::Global;
+use std::marker::Model;
+
+/// Indices that follow one another. Contracts see them as their list.
+#[derive(Drop)]
+pub(crate) struct RowRange {
+    begin: usize,
+    end: usize,
+}
+
+impl Model for RowRange {
+    ghost use Rattle.std.specs.Prelude.{List, ℕ, ◌-◌, ◌^◌, ◌<◌, ◌≤◌};
+    ghost use Rattle.std.specs.List.{range_with_len};
+
+    ghost Value = { List ℕ };
+
+    ghost view = { λ r. range_with_len r.begin (r.end - r.begin) };
+
+    ghost invariant = { λ r. (r.begin ≤ r.end) × (r.end < 2 ^ 64) };
+}
+
+impl RowRange {
+    pub(crate) fn len(&self) -> usize
+        ensures { result ≡ length self.now }
+    {
+        self.end - self.begin
+    }
+
+    /// Index `k` of them, counted from 0.
+    pub(crate) fn at(&self, k: usize) -> usize
+        requires { k < length self.now }
+        ensures { result ≡ get_or self.now k 0 }
+    {
+        self.begin + k
+    }
+}
 
 /// The indices at which all legs operate, and leg 1 within the horizon.
 #[tactic(auto, unfolding(crate::specs::Schedules::rows))]
-pub(crate) fn rows(alloc: Global, plan: &Plan, legs: &[Scheduled]) -> Result<Vec<usize>, Memory>
-    ensures { IfOk result (λ list. list.items ≡ rows plan.now legs.now) }
+pub(crate) fn rows(plan: &Plan, legs: &[Scheduled]) -> RowRange
+    ensures { result ≡ rows plan.now legs.now }
 {
     let Some((first, rest)) = legs.split_first() else {
-        return Ok(Vec::new(alloc));
+        return RowRange { begin: 0, end: 0 };
     };
     let count = shortest(first.operations.len(), rest);
     let ahead = first.before(plan.first.number());
     let within = first.before(plan.last.number() + 1);
     let begin = ahead.min(count);
     let end = within.min(count).max(begin);
-    let Ok(mut list) = Vec::with_capacity(alloc, end - begin) else {
-        return Err(Memory);
-    };
-    for i in begin..end {
-        let Ok(()) = list.push(i) else {
-            return Err(Memory);
-        };
-    }
-    Ok(list)
+    RowRange { begin, end }
 }
 
 /// The serial of the first leg whose count of operating days differs from leg 1's, where no leg has an open end.
@@ -61,12 +88,12 @@ fn has_open_end(legs: &[Scheduled]) -> bool
 }
 
 /// The serial of the first leg, by row and then by leg, that departs more than one local day before the leg ahead of it.
-pub(crate) fn falling_back(legs: &[Scheduled], rows: &[usize]) -> Option<u32>
+pub(crate) fn falling_back(legs: &[Scheduled], rows: &RowRange) -> Option<u32>
     requires { All (Reaches legs.now) rows.now }
     ensures { result ≡ falling_at legs.now rows.now }
 {
-    for i in rows {
-        if let Some(serial) = falling_on(legs, *i) {
+    for k in 0..rows.len() {
+        if let Some(serial) = falling_on(legs, rows.at(k)) {
             return Some(serial);
         }
     }

@@ -111,10 +111,7 @@ pub(crate) fn schedule(alloc: Global, plan: &Plan, legs: &[Leg]) -> Result<Vec<S
         return Err(Memory);
     };
     for leg in legs {
-        let Ok(scheduled) = schedule_leg(alloc, plan, leg) else {
-            return Err(Memory);
-        };
-        let Ok(()) = list.push(scheduled) else {
+        let Ok(()) = list.push(schedule_leg(plan, leg)) else {
             return Err(Memory);
         };
     }
@@ -134,23 +131,21 @@ pub(crate) fn shortest(n: usize, legs: &[Scheduled]) -> usize
 }
 
 /// The leg with its operations.
-fn schedule_leg(alloc: Global, plan: &Plan, leg: &Leg) -> Result<Scheduled, Memory>
+fn schedule_leg(plan: &Plan, leg: &Leg) -> Scheduled
     requires right { IsRightLeg leg.now }
     requires end { plan.now.end ≤ 47846 }
-    ensures { IfOk result (λ s. s ≡ scheduled plan.now leg.now) }
+    ensures { result ≡ scheduled plan.now leg.now }
 {
-    let Ok(days) = Rounds::of(alloc, leg, plan.end) else {
-        return Err(Memory);
-    };
+    let days = Rounds::of(leg, plan.end);
     let after = days_after(plan.local, leg);
     let operations = Operations::of(days, after);
     let time = local_time(plan.local, leg);
     let _board: Station = leg.board;
-    Ok(Scheduled {
+    Scheduled {
         leg: *leg,
         operations,
         time,
-    })
+    }
 }
 
 /// The local day of departure, so many days after an operating day.

@@ -4,7 +4,7 @@ use Rattle.ssim_flights.specs.Flown.{departure}
 use Rattle.ssim_flights.specs.Taken.{has_departure}
 use Rattle.ssim_flights.proofs.flown.is_taken.Given as goal
 
-abbrev pub invariant-loop-i : goal.invariant-loop-i
-invariant-loop-i l =
+abbrev pub invariant-loop-k : goal.invariant-loop-k
+invariant-loop-k l =
     list_any (has_departure l.taken) (map (departure l.first) l.rows)
-    ≡ list_any (has_departure l.taken) (map (departure l.first) (drop l.i-index l.rows))
+    ≡ list_any (has_departure l.taken) (map (departure l.first) (drop l.k l.rows))

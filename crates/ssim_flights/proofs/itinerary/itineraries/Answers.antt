@@ -3,7 +3,7 @@ use Rattle.std.specs.List.{list_any, position_or_len}
 use Rattle.std.proofs.lemmas.List.{take_more}
 use Rattle.ssim_records.specs.declared.carrier.Leg.{Leg}
 use Rattle.ssim_flights.specs.declared.itinerary.Name.{Name}
-use Rattle.ssim_flights.specs.Itineraries.{name_of, same_name, with_name}
+use Rattle.ssim_flights.specs.Itineraries.{same_name, with_name}
 use Rattle.ssim_flights.proofs.Grouping.{IsGathered, gathered_placed, gathered_all, placed_below}
 use Rattle.ssim_flights.proofs.itinerary.itineraries.Goals as goal
 

@@ -1,22 +1,10 @@
-use Rattle.std.proofs.Common.{◌≡◌, ◌≤◌, ◌+◌, ◌-◌, ℕ, List, [], ◌∷◌, ◌++◌, length, map, refl, sym, ap, subst, ◌∙◌, rules, arith}
+use Rattle.std.proofs.Common.{◌≡◌, ◌≤◌, ◌+◌, ℕ, ◌∷◌, length, map, refl, ap, subst, ◌∙◌, rules, arith}
 use Rattle.std.proofs.lemmas.List.{length-map}
 use Rattle.ssim_flights.specs.Operating.{Operation}
 use Rattle.ssim_flights.specs.Rounds.{AreBefore}
 use Rattle.ssim_flights.specs.Schedules.{shortest}
 use Rattle.ssim_flights.proofs.Horizons.{rows_are}
-use Rattle.ssim_flights.proofs.Walks.{range_push}
 use Rattle.ssim_flights.proofs.rows.rows.Goals as goal
-
-pub loop-i-preserved : goal.loop-i-preserved
-loop-i-preserved c =
-    let inside = c.loop-i-test.true in
-    let held = c.loop-i.invariant in
-    let begin = c.min-begin.result in
-    let i = c.loop-i.i in (
-      c.in-Ok-push.ensures.items ∙ ap (λ (xs : List ℕ). xs ++ i ∷ []) held.0 ∙ sym (range_push begin (i - begin) (i + 1 - begin) i (omega arith) (omega arith)),
-      omega arith,
-      omega arith,
-    )
 
 pub returns : goal.returns
 returns c =
@@ -33,5 +21,5 @@ returns c =
     let len = c.len.ensures in
     let mapped = length-map first.operations (λ (o : Operation). o.day) in
     let short : c.shortest-count.result ≤ length (map (λ o. o.day) first.operations) = omega arith in
-    rows_are plan first c.before-ahead.result c.before-within.result c.shortest-count.result ahead within short first rest c.args.legs.now c.min-begin.result c.max-end.result c.loop-i.i c.loop-i.list.items
-    refl parts count (omega arith) (omega arith) (omega arith) c.loop-i.invariant.0
+    rows_are plan first c.before-ahead.result c.before-within.result c.shortest-count.result ahead within short first rest c.args.legs.now c.min-begin.result c.max-end.result
+    refl parts count (omega arith) (omega arith)

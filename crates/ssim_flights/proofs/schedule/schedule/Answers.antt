@@ -14,8 +14,8 @@ loop-leg-preserved c =
     let i = c.loop-leg.leg-index in
     let leg = c.leg-item.result in
     let front : take (i + 1) legs ≡ take i legs ++ leg ∷ [] = take_more legs i leg (omega arith) ∙ ap (λ (x : Leg). take i legs ++ x ∷ []) (sym c.leg-item.is) in
-    c.in-Ok-push.ensures.items ∙ ap (λ (s : List Scheduled). s ++ c.in-Ok-schedule_leg.scheduled ∷ []) c.loop-leg.invariant
-    ∙ ap (λ (s : Scheduled). map (scheduled c.args.plan.now) (take i legs) ++ s ∷ []) c.in-Ok-schedule_leg.ensures
+    c.in-Ok-push.ensures.items ∙ ap (λ (s : List Scheduled). s ++ c.schedule_leg.result ∷ []) c.loop-leg.invariant
+    ∙ ap (λ (s : Scheduled). map (scheduled c.args.plan.now) (take i legs) ++ s ∷ []) c.schedule_leg.ensures
     ∙ sym (map-append (scheduled c.args.plan.now) (take i legs) (leg ∷ [])) ∙ ap (map (scheduled c.args.plan.now)) (sym front)
 
 pub returns : goal.returns

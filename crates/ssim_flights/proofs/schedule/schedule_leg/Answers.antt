@@ -14,6 +14,6 @@ unfolding scheduled
 returns c =
     let leg = c.args.leg.now in
     ap (timed leg c.local_time-time.result)
-    (c.of-operations.ensures ∙ ap (λ (a : ℤ). map (operation a) c.in-Ok.days) (few_days c.days_after-after.result c.days_after-after.ensures.low c.days_after-after.ensures.high ∙ c.days_after-after.ensures.value)
-    ∙ ap (map (operation (days_after c.args.plan.now.local leg))) c.in-Ok.ensures)
+    (c.of-operations.ensures ∙ ap (λ (a : ℤ). map (operation a) c.of-days.result) (few_days c.days_after-after.result c.days_after-after.ensures.low c.days_after-after.ensures.high ∙ c.days_after-after.ensures.value)
+    ∙ ap (map (operation (days_after c.args.plan.now.local leg))) c.of-days.ensures)
     ∙ ap (λ (time : ℕ). timed leg time (map (operation (days_after c.args.plan.now.local leg)) (operating_days leg c.args.plan.now.end))) c.local_time-time.ensures
