@@ -8,10 +8,10 @@ use Rattle.airline_base.proofs.Reaches.{ok_is}
 use Rattle.airline_base.specs.Fields.{byte_at, word_at, fixed_at, numeral_at, suffix_text}
 use Rattle.airline_base.proofs.Chains.{with_step, with_want, step_none, want_none}
 use Rattle.airline_base.proofs.Tests.{some_is}
-use Rattle.airline_base.proofs.LeadingFields.{byte_takes, word_takes, word_again, fixed_takes, fixed_again, length_airline, length_station, numeral_takes, numeral_again}
+use Rattle.airline_base.proofs.LeadingFields.{byte_takes, word_takes, fixed_takes, fixed_again, length_airline, length_station, numeral_takes, numeral_again}
 use Rattle.seat_limits.specs.LadderText.{IsEntry, entry_text, entry_in, entry_at}
 use Rattle.seat_limits.specs.RowFields.{suffix_at, date_at}
-use Rattle.seat_limits.specs.ChangeRows.{alone, behind_blank, between, change_at, cities_text, class_in, class_text, limit_tail, sale_tail, sale_verb, setting_text, step_with, tail_at, tail_text, verb_at, verb_from, verb_of, verb_text, AreCities, IsTail, SpellsChange, Tail}
+use Rattle.seat_limits.specs.ChangeRows.{alone, behind_blank, between, change_at, class_in, class_text, limit_tail, sale_tail, sale_verb, step_with, tail_at, tail_text, verb_at, verb_from, verb_of, verb_text, AreCities, IsTail, SpellsChange, Tail}
 use Rattle.seat_nesting.specs.declared.ladder.Step.{Step}
 use Rattle.seat_limits.specs.declared.change_reading.Verb.{Verb}
 use Rattle.seat_limits.specs.declared.change_reading.Verb.TheVariants as verbs

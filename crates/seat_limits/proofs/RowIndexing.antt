@@ -10,7 +10,7 @@ use Rattle.std.proofs.lemmas.List.Sums.{fold_push}
 use Rattle.std.proofs.lemmas.Option.{slice_get-get_or, slice_get_within, get_or_from_slice_get, same_Some}
 use Rattle.seat_nesting.specs.Nesting.{Steps}
 use Rattle.seat_limits.specs.Authorised.{row_pair, same_pair, holds_day, after_row, LastRows, is_of, last_below, PutsRow, HasLastRows, IsRun}
-use Rattle.seat_limits.specs.RowStretches.{number_of}
+use Rattle.seat_limits.specs.RowStretches.{number_noted, Knows}
 use Rattle.seat_limits.specs.declared.row_index.Numbered.{Numbered}
 use Rattle.seat_limits.specs.declared.limit_row.LimitRow.{LimitRow}
 use Rattle.seat_limits.specs.declared.row_index.Pair.{Pair}
@@ -119,10 +119,16 @@ run_more rows pair from i j row run lt is of_pair next = record { each = λ k le
   of k le less true e = ap (λ (n : ℕ). is_of pair (slice_get rows n)) (eqb-true k i e) ∙ here
   of k le less false e = run.each k le (let other : k ≢ i = eqb-false k i e in omega (arith, less, next, other))
 
--- a pair that is the one before has its number
-pub number_known : (last : LastRows) (known : Numbered) (p : Pair) → known.number ≡ number_of last known.pair
-    → same_pair known.pair p ≡ true → known.number ≡ number_of last p
-number_known last known p is same = is ∙ ap (number_of last) (pair_is known.pair p same)
+-- a pair that is the one that is noted has its number
+pub number_known : (last : LastRows) (known : Option Numbered) (p : Pair) (number : ℕ) → Knows last known
+    → number_noted known p ≡ Some number → get same_pair last p ≡ Some number
+number_known last None p number knows is = absurd cc
+number_known last (Some known) p number knows is = of (same_pair known.pair p) refl is
+  where
+    of : (b : Bool) → same_pair known.pair p ≡ b → cond b (Some known.number) None ≡ Some number
+        → get same_pair last p ≡ Some number
+    of true same is = ap (get same_pair last) (sym (pair_is known.pair p same)) ∙ knows ∙ is
+    of false same is = absurd cc
 
 -- ---- the rows so far
 

@@ -16,7 +16,7 @@ use Rattle.std.proofs.lemmas.Option.{slice_get_within, get_or_from_slice_get, sa
 use Rattle.seat_nesting.specs.Nesting.{Steps}
 use Rattle.seat_limits.specs.Authorised.{row_pair, same_pair, holds_day, is_for, after_row, authorised, row_steps, LastRows, is_of, last_below}
 use Rattle.row_stretches.specs.Painting.{or_row, Paints}
-use Rattle.seat_limits.specs.RowStretches.{slot, number_of, start_of, end_of, holds_slot, passes, last_where, AreEdges, IsFirst, IsRowIndex}
+use Rattle.seat_limits.specs.RowStretches.{slot, number_of, start_of, end_of, holds_slot, passes, last_where, AreEdges, IsAhead, IsBehind, IsFirst, IsRowIndex}
 use Rattle.seat_limits.specs.declared.limit_row.LimitRow.{LimitRow}
 use Rattle.seat_limits.specs.declared.row_index.Pair.{Pair}
 use Rattle.seat_limits.proofs.RowIndexing.{pair_is, pair_same, none_within, so_far, so_far_more, nothing_of, last_row}
@@ -208,6 +208,22 @@ above_same a b x le same = of (nat_lt a x) refl
     of : (t : Bool) → nat_lt a x ≡ t → nat_lt b x ≡ nat_lt a x
     of true e = lt-ltb b x (omega (arith, le, ltb-true a x e)) ∙ sym e
     of false e = le-ltb b x (same (ltb-false a x e)) ∙ sym e
+
+-- a place is the first whose edge is not below a slot, where the edge ahead of it is below and the one at it is not
+pub is_first : (edges : List ℕ) (at place : ℕ) → IsNonDecreasing edges → IsBehind edges at place → IsAhead edges at place
+    → IsFirst edges at place
+is_first edges at zero sorted behind ahead = record {
+  inside = omega arith;
+  below = λ c lt. absurd (omega (arith, lt));
+  rest = λ c le lt. let up = sorted zero c 0 (omega arith) lt in omega (arith, up, ahead (omega (arith, lt)));
+}
+is_first edges at (suc k) sorted behind ahead =
+    let last = behind k (omega arith) in
+    record {
+      inside = omega (arith, last.0);
+      below = λ c lt. let up = sorted c k 0 (omega (arith, lt)) last.0 in omega (arith, up, last.1);
+      rest = λ c le lt. let up = sorted (suc k) c 0 le lt in omega (arith, up, ahead (omega (arith, le, lt)));
+    }
 
 -- an edge that is no higher than the slot is no higher than the stretch's own
 edge_below : (edges : List ℕ) (at place c x : ℕ) → IsNonDecreasing edges → IsFirst edges (at + 1) place → c + 1 ≡ place

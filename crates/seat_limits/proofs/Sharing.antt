@@ -1,5 +1,5 @@
 -- Ladders that legs share.
-use Rattle.std.proofs.Common.{◌≡◌, ℕ, zero, suc, ◌+◌, List, [], ◌∷◌, ◌++◌, length, Option, Some, None}
+use Rattle.std.proofs.Common.{◌≡◌, ℕ, zero, suc, List, [], ◌∷◌, ◌++◌, length, Option, Some, None}
 use Rattle.std.specs.List.{slice_get}
 use Rattle.seat_nesting.specs.Nesting.{Steps}
 use Rattle.seat_limits.specs.Authorised.{AreShares}

@@ -7,6 +7,7 @@ use Rattle.seat_limits.specs.Authorised.{row_pair, same_pair, LastRows, last_bel
 use Rattle.seat_limits.specs.declared.limit_row.LimitRow.{LimitRow}
 use Rattle.seat_limits.specs.declared.row_index.Pair.{Pair}
 use Rattle.seat_limits.specs.declared.row_index.Numbered.{Numbered}
+use Rattle.seat_limits.specs.declared.row_index.Near.{Near}
 
 -- ---- slots
 
@@ -18,10 +19,19 @@ slot number day = number * 131072 + day
 abbrev pub number_of : LastRows → Pair → ℕ
 number_of last pair = unwrap_or (get same_pair last pair) 0
 
--- the pair that is noted, where one is, has this number
+-- the pair that is noted, where one is, has a row, and this number
 abbrev pub Knows : LastRows → Option Numbered → Type 0
 Knows last None = Unit {0}
-Knows last (Some known) = known.number ≡ number_of last known.pair
+Knows last (Some known) = get same_pair last known.pair ≡ Some known.number
+
+-- so it is with each place of what was found last
+abbrev pub AllKnow : LastRows → List Near → Type 0
+AllKnow last nears = All (λ near. Knows last near.known) nears
+
+-- the number that is noted, where it is that of the pair
+abbrev pub number_noted : Option Numbered → Pair → Option ℕ
+number_noted None pair = None
+number_noted (Some known) pair = (if same_pair known.pair pair then Some known.number else None)
 
 -- the slot on which a row begins, and the one on which it has ended
 abbrev pub start_of : LastRows → LimitRow → ℕ
@@ -56,6 +66,14 @@ pub record IsFirst (edges : List ℕ) (at place : ℕ) : Type 0 where
   pub inside : place ≤ length edges
   pub below : (c : ℕ) → c < place → slice_index_or edges c 0 < at
   pub rest : (c : ℕ) → place ≤ c → c < length edges → at ≤ slice_index_or edges c 0
+
+-- the edge ahead of a place, where there is one, is below a slot
+abbrev pub IsBehind : List ℕ → ℕ → ℕ → Type 0
+IsBehind edges at place = (c : ℕ) → c + 1 ≡ place → (c < length edges) × (slice_index_or edges c 0 < at)
+
+-- the edge at a place, where there is one, is not
+abbrev pub IsAhead : List ℕ → ℕ → ℕ → Type 0
+IsAhead edges at place = place < length edges → at ≤ slice_index_or edges place 0
 
 -- ---- stretches: one begins at each edge
 

@@ -1,12 +1,12 @@
 //! The grid that limit rows give to dated flights.
 ghost use Rattle.std.specs.Prelude.{◌≡◌, ◌<◌, ℕ, length, Some, IfOk, OnOk, IfSome};
 ghost use Rattle.seat_nesting.specs.Nesting.{HasLadders, IsDistinct, steps_at, steps_of};
-ghost use Rattle.seat_limits.specs.Authorised.{authorised_grid, authorised_legs, row_steps, AreShares};
-ghost use Rattle.seat_limits.specs.RowStretches.{IsRowIndex};
+ghost use Rattle.seat_limits.specs.Authorised.{authorised, authorised_grid, authorised_legs, row_steps, AreShares};
+ghost use Rattle.seat_limits.specs.RowStretches.{AllKnow, IsRowIndex};
 
 use crate::limit_row::LimitRow;
-use crate::row_index::{RowIndex, leg_pair_of};
-use airline_base::Memory;
+use crate::row_index::{Near, Pair, RowIndex, leg_pair_of};
+use airline_base::{Day, Memory};
 use seat_nesting::{FlightLegs, Grid, SharedLadder};
 use ssim_flights::{Flight, Flights};
 use std::alloc::Global;
@@ -42,9 +42,10 @@ fn legs_of_all(
     let Ok(mut grid) = Vec::with_capacity(alloc, flights.len() as usize) else {
         return Err(Memory);
     };
+    let mut nears = [Near::nothing(); 8];
     for i in 0..flights.len() {
         let flight = flights.flight(i);
-        let Ok(legs) = legs_of(alloc, flight, rows, index, &mut shares) else {
+        let Ok(legs) = legs_of(alloc, flight, rows, index, &mut nears, &mut shares) else {
             return Err(Memory);
         };
         let Ok(()) = grid.push(legs) else {
@@ -60,19 +61,24 @@ fn legs_of(
     flight: &Flight,
     rows: &[LimitRow],
     index: &RowIndex,
+    nears: &mut [Near],
     shares: &mut Vec<Option<SharedLadder>>,
 ) -> Result<FlightLegs, Memory>
+    requires nears { AllKnow index.now.last nears.old }
     requires index { IsRowIndex index.now.last index.now.edges.items index.now.found.items rows.now }
     requires shares { AreShares shares.old.items rows.now }
     ensures legs { IfOk result (λ legs. legs ≡ authorised_legs rows.now flight.now) }
     ensures distinct { IfOk result (λ legs. (leg : ℕ) → IsDistinct (steps_at legs leg)) }
     ensures shares { OnOk result (AreShares shares.new.items rows.now) }
+    ensures nears { AllKnow index.now.last nears.new }
 {
     let Ok(mut ladders) = Vec::with_capacity(alloc, flight.legs.len()) else {
         return Err(Memory);
     };
-    for leg in flight.legs.as_slice() {
-        let row = index.row(rows, leg_pair_of(flight, leg), leg.day);
+    let legs = flight.legs.as_slice();
+    for j in 0..legs.len() {
+        let leg = &legs[j];
+        let row = row_of(index, rows, nears, j, leg_pair_of(flight, leg), leg.day);
         let Ok(ladder) = shared_of(alloc, rows, shares, row) else {
             return Err(Memory);
         };
@@ -81,6 +87,28 @@ fn legs_of(
         };
     }
     Ok(FlightLegs::of(ladders))
+}
+
+/// The row of a leg, looked for where that of the leg at the same place of the flight ahead was found: most often that flight is the
+/// same one a day earlier.
+fn row_of(
+    index: &RowIndex,
+    rows: &[LimitRow],
+    nears: &mut [Near],
+    place: usize,
+    pair: Pair,
+    day: Day,
+) -> Option<u32>
+    requires index { IsRowIndex index.now.last index.now.edges.items index.now.found.items rows.now }
+    requires nears { AllKnow index.now.last nears.old }
+    ensures ladder { row_steps rows.now result ≡ authorised rows.now pair day }
+    ensures inside { IfSome result (λ i. i < length rows.now) }
+    ensures nears { AllKnow index.now.last nears.new }
+{
+    if place >= nears.len() {
+        return index.row(rows, &mut Near::nothing(), pair, day);
+    }
+    index.row(rows, &mut nears[place], pair, day)
 }
 
 /// Room for the ladder of each row.

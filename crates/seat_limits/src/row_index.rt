@@ -1,9 +1,9 @@
 //! Limit rows by flight and city pair, so that a leg finds its row by bisection.
-ghost use Rattle.std.specs.Prelude.{◌≡◌, ◌<◌, ◌≤◌, ◌+◌, ◌^◌, Some, length, IfOk, IfSome, OnOk};
+ghost use Rattle.std.specs.Prelude.{◌≡◌, ◌<◌, ◌≤◌, ◌+◌, ◌^◌, None, Some, length, IfOk, IfSome, IsTrue, OnOk};
 ghost use Rattle.std.specs.HashMap.{get};
 ghost use Rattle.std.specs.List.Sorted.{IsNonDecreasing};
 ghost use Rattle.seat_limits.specs.Authorised.{row_pair, same_pair, leg_pair, authorised, row_steps, PutsRow, HasLastRows, IsRun};
-ghost use Rattle.seat_limits.specs.RowStretches.{slot, number_of, AreEdges, IsFirst, Knows, ShowRows, IsRowIndex};
+ghost use Rattle.seat_limits.specs.RowStretches.{slot, number_noted, number_of, AreEdges, IsAhead, IsBehind, IsFirst, Knows, ShowRows, IsRowIndex};
 
 use crate::limit_row::LimitRow;
 use airline_base::{Airline, Day, Memory, Station};
@@ -27,6 +27,24 @@ pub struct Pair {
 pub struct Numbered {
     pub pair: Pair,
     pub number: u32,
+}
+
+/// What was found last: a pair, and the place of its day among the edges, of which nothing is known.
+#[derive(Clone, Copy)]
+pub struct Near {
+    pub known: Option<Numbered>,
+    pub place: usize,
+}
+
+impl Near {
+    pub fn nothing() -> Near
+        ensures { result.known ≡ None }
+    {
+        Near {
+            known: None,
+            place: 0,
+        }
+    }
 }
 
 /// The pairs' days in one order, cut where rows begin and end, and the row that counts on each stretch.
@@ -54,16 +72,25 @@ impl RowIndex {
         Ok(RowIndex { last, edges, found })
     }
 
-    /// The last row that is for a pair on a day.
-    pub fn row(&self, _rows: &[LimitRow], pair: Pair, day: Day) -> Option<u32>
-        requires { IsRowIndex self.now.last self.now.edges.items self.now.found.items _rows.now }
+    /// The last row that is for a pair on a day, looked for where one was found last.
+    pub(crate) fn row(
+        &self,
+        _rows: &[LimitRow],
+        near: &mut Near,
+        pair: Pair,
+        day: Day,
+    ) -> Option<u32>
+        requires index { IsRowIndex self.now.last self.now.edges.items self.now.found.items _rows.now }
+        requires known { Knows self.now.last near.old.known }
         ensures ladder { row_steps _rows.now result ≡ authorised _rows.now pair day }
         ensures inside { IfSome result (λ i. i < length _rows.now) }
+        ensures known { Knows self.now.last near.new.known }
     {
-        let Some(number) = self.last.get(&pair) else {
+        let Some(number) = number_known(&self.last, &mut near.known, &pair) else {
             return None;
         };
-        let place = first_at(&self.edges, slot(*number, day) + 1);
+        let place = first_near(&self.edges, slot(number, day) + 1, near.place);
+        near.place = place;
         if place == 0 {
             return None;
         }
@@ -143,7 +170,7 @@ fn edges_of(alloc: Global, rows: &[LimitRow], last: &HashMap<Pair, u32>) -> Resu
     let mut edges = Vec::new(alloc);
     let mut known = None;
     for row in rows {
-        let number = number_known(last, &mut known, row);
+        let number = number_of(last, &mut known, row);
         let Ok(()) = edges.push(start_of(number, row)) else {
             return Err(Memory);
         };
@@ -177,7 +204,7 @@ fn rows_found(
     while i > 0 {
         i -= 1;
         let row = &rows[i as usize];
-        let number = number_known(last, &mut known, row);
+        let number = number_of(last, &mut known, row);
         let from = first_at(edges, start_of(number, row));
         let to = first_at(edges, end_of(number, row));
         stretches.paint(from, to, i);
@@ -193,6 +220,45 @@ fn first_at(edges: &[u64], at: u64) -> usize
     edges.partition_point(|edge| *edge < at)
 }
 
+/// The same, looked for at a place first.
+fn first_near(edges: &[u64], at: u64, place: usize) -> usize
+    requires { IsNonDecreasing edges.now }
+    ensures { IsFirst edges.now at result }
+{
+    if is_first(edges, at, place) {
+        return place;
+    }
+    first_at(edges, at)
+}
+
+/// Whether this is the place of the first edge that is not below a slot, or the number of edges.
+fn is_first(edges: &[u64], at: u64, place: usize) -> bool
+    requires { IsNonDecreasing edges.now }
+    ensures { IsTrue result → IsFirst edges.now at place }
+{
+    is_behind(edges, at, place) && is_ahead(edges, at, place)
+}
+
+/// Whether the edge ahead of a place is below a slot, where there is one.
+fn is_behind(edges: &[u64], at: u64, place: usize) -> bool
+    ensures { IsTrue result → IsBehind edges.now at place }
+{
+    match place.checked_sub(1) {
+        Some(before) => before < edges.len() && edges[before] < at,
+        None => true,
+    }
+}
+
+/// Whether the edge at a place is not below a slot, where there is one.
+fn is_ahead(edges: &[u64], at: u64, place: usize) -> bool
+    ensures { IsTrue result → IsAhead edges.now at place }
+{
+    match edges.get(place) {
+        Some(edge) => at <= *edge,
+        None => true,
+    }
+}
+
 fn slot(number: u32, day: Day) -> u64
     ensures value { result ≡ slot number day }
     ensures day { day < 131072 }
@@ -201,65 +267,46 @@ fn slot(number: u32, day: Day) -> u64
     u64::from(number) * 131_072 + u64::from(day.number())
 }
 
-fn number_of(last: &HashMap<Pair, u32>, pair: Pair) -> u32
-    ensures { result ≡ number_of last.now pair }
-{
-    match last.get(&pair) {
-        Some(number) => *number,
-        None => 0,
-    }
-}
-
-/// The number of a row's pair, which is looked up where the row before had another pair.
-fn number_known(last: &HashMap<Pair, u32>, known: &mut Option<Numbered>, row: &LimitRow) -> u32
+/// The number of a row's pair.
+fn number_of(last: &HashMap<Pair, u32>, known: &mut Option<Numbered>, row: &LimitRow) -> u32
     requires { Knows last.now known.old }
     ensures number { result ≡ number_of last.now (row_pair row.now) }
     ensures knows { Knows last.now known.new }
 {
-    match number_before(last, known, row) {
+    match number_known(last, known, &pair_of(row)) {
         Some(number) => number,
-        None => {
-            let number = number_of(last, pair_of(row));
-            note(known, row, number);
-            number
-        }
+        None => 0,
     }
 }
 
-/// Notes the number of a row's pair.
-fn note(known: &mut Option<Numbered>, row: &LimitRow, number: u32)
-    ensures { known.new ≡ Some (record { pair = row_pair row.now; number = number }) }
+/// The number of a pair that has a row, which is looked up where it is another than the one that is noted.
+fn number_known(last: &HashMap<Pair, u32>, known: &mut Option<Numbered>, pair: &Pair) -> Option<u32>
+    requires { Knows last.now known.old }
+    ensures number { result ≡ get same_pair last.now pair.now }
+    ensures knows { Knows last.now known.new }
 {
-    *known = Some(Numbered {
-        pair: pair_of(row),
-        number,
-    });
-}
-
-/// The number of a row's pair, where it is the pair that is noted.
-#[tactic(auto, using(crate::proofs::RowIndexing::number_known))]
-fn number_before(
-    _last: &HashMap<Pair, u32>,
-    known: &Option<Numbered>,
-    row: &LimitRow,
-) -> Option<u32>
-    requires { Knows _last.now known.now }
-    ensures { IfSome result (λ number. number ≡ number_of _last.now (row_pair row.now)) }
-{
-    let Some(before) = known else {
+    if let Some(number) = number_noted(known, pair) {
+        return Some(number);
+    }
+    let Some(number) = last.get(pair) else {
         return None;
     };
-    if has_pair(before, row) {
-        Some(before.number)
-    } else {
-        None
-    }
+    let number = *number;
+    *known = Some(Numbered {
+        pair: *pair,
+        number,
+    });
+    Some(number)
 }
 
-fn has_pair(known: &Numbered, row: &LimitRow) -> bool
-    ensures { result ≡ same_pair known.now.pair (row_pair row.now) }
+/// The number that is noted, where it is that of this pair.
+fn number_noted(known: &Option<Numbered>, pair: &Pair) -> Option<u32>
+    ensures { result ≡ number_noted known.now pair.now }
 {
-    known.pair == pair_of(row)
+    match known {
+        Some(known) if known.pair == *pair => Some(known.number),
+        _ => None,
+    }
 }
 
 /// The slot on which a row begins whose pair has this number.
