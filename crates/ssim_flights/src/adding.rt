@@ -26,11 +26,19 @@ pub(crate) struct Flown {
     pub taken: HashSet<Departure>,
 }
 
+/// Memory that each itinerary uses anew.
+#[derive(Drop)]
+pub(crate) struct Workspace {
+    pub chained: Vec<Leg>,
+    pub scheduled: Vec<Scheduled>,
+}
+
 /// Adds the flights of an itinerary.
 pub(crate) fn add(
     alloc: Global,
     plan: &Plan,
     legs: &[Leg],
+    space: &mut Workspace,
     flown: &mut Flown,
 ) -> Result<(), FlightFault>
     requires right { All IsRightLeg legs.now }
@@ -45,17 +53,17 @@ pub(crate) fn add(
     if let Some(serial) = repeated_leg(legs) {
         return refuse(serial, FlightKind::RepeatedLeg);
     }
-    let Ok(list) = chain(alloc, legs) else {
+    let Ok(()) = chain(&mut space.chained, legs) else {
         return Err(FlightFault::of_memory());
     };
-    let chained = list.as_slice();
+    let chained = space.chained.as_slice();
     if let Some(serial) = broken_chain(chained) {
         return refuse(serial, FlightKind::BrokenChain);
     }
-    let Ok(plans) = schedule(alloc, plan, chained) else {
+    let Ok(()) = schedule(&mut space.scheduled, plan, chained) else {
         return Err(FlightFault::of_memory());
     };
-    let scheduled = plans.as_slice();
+    let scheduled = space.scheduled.as_slice();
     add_chain(alloc, plan, legs, scheduled, flown)
 }
 

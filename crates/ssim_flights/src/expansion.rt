@@ -6,7 +6,7 @@ ghost use Rattle.ssim_flights.specs.Itineraries.{itineraries};
 ghost use Rattle.ssim_flights.specs.Right.{IsOfCentury, IsRightCarrier, IsRightLeg};
 ghost use Rattle.ssim_flights.specs.Schedules.{plan_of};
 
-use crate::adding::{Flown, add};
+use crate::adding::{Flown, Workspace, add};
 use crate::fault::FlightFault;
 use crate::flights::Flights;
 use crate::itinerary::itineraries;
@@ -49,8 +49,12 @@ pub fn expand(
         flights: Vec::new(alloc),
         taken: HashSet::new(alloc),
     };
+    let mut space = Workspace {
+        chained: Vec::new(alloc),
+        scheduled: Vec::new(alloc),
+    };
     for legs in all.as_slice() {
-        if let Err(fault) = add(alloc, &plan, legs.as_slice(), &mut flown) {
+        if let Err(fault) = add(alloc, &plan, legs.as_slice(), &mut space, &mut flown) {
             return Err(fault);
         }
     }

@@ -1,5 +1,5 @@
 //! Legs with the days of their operations.
-ghost use Rattle.std.specs.Prelude.{◌≡◌, ◌≤◌, ◌<◌, All, IfOk, length, map, slice_index, unsigned_abs, pos, negsuc, ◌+ℤ◌, ◌≤ℤ◌};
+ghost use Rattle.std.specs.Prelude.{◌≡◌, ◌≤◌, ◌<◌, All, OnOk, length, map, slice_index, unsigned_abs, pos, negsuc, ◌+ℤ◌, ◌≤ℤ◌};
 ghost use Rattle.ssim_flights.specs.Operating.{operation};
 ghost use Rattle.ssim_flights.specs.Right.{IsRightLeg};
 ghost use Rattle.ssim_flights.specs.Rounds.{AreBefore};
@@ -9,7 +9,6 @@ use crate::plan::Plan;
 use crate::rounds::Rounds;
 use airline_base::{Day, Memory, Station};
 use ssim_records::Leg;
-use std::alloc::Global;
 use std::marker::Model;
 
 /// The operations of a leg, in order.
@@ -101,21 +100,19 @@ impl Scheduled {
     }
 }
 
-/// The legs with their operations.
-pub(crate) fn schedule(alloc: Global, plan: &Plan, legs: &[Leg]) -> Result<Vec<Scheduled>, Memory>
+/// Makes this list that of the legs with their operations.
+pub(crate) fn schedule(list: &mut Vec<Scheduled>, plan: &Plan, legs: &[Leg]) -> Result<(), Memory>
     requires right { All IsRightLeg legs.now }
     requires end { plan.now.end ≤ 47846 }
-    ensures { IfOk result (λ list. list.items ≡ schedule plan.now legs.now) }
+    ensures { OnOk result (list.new.items ≡ schedule plan.now legs.now) }
 {
-    let Ok(mut list) = Vec::with_capacity(alloc, legs.len()) else {
-        return Err(Memory);
-    };
+    list.clear();
     for leg in legs {
         let Ok(()) = list.push(schedule_leg(plan, leg)) else {
             return Err(Memory);
         };
     }
-    Ok(list)
+    Ok(())
 }
 
 /// How many operations each of the legs has, at most n.

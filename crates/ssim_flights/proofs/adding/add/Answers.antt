@@ -23,7 +23,7 @@ returns-in-Some-repeated_leg-clause-fault c =
 
 pub returns-in-Some-broken_chain-clause-fault : goal.returns-in-Some-broken_chain-clause-fault
 returns-in-Some-broken_chain-clause-fault c =
-    let links : c.as_slice-chained.result.now ≡ chain c.args.legs.now = c.as_slice-chained.ensures ∙ c.in-Ok.ensures in
+    let links : c.as_slice-chained.result.now ≡ chain c.args.legs.now = c.as_slice-chained.ensures.value ∙ c.in-Ok.ensures in
     refused _ c.refuse-in-Some-broken_chain.result _ _ c.refuse-in-Some-broken_chain.ensures
     (fault_three c.args.plan.now (has_departure c.args.flown.now.taken) (length c.args.flown.now.flights.items) c.args.legs.now c.in-Some-broken_chain.serial
     (sym c.missing_leg.ensures ∙ c.in_default.is) (sym c.repeated_leg.ensures ∙ c.in_default-repeated_leg.is)
@@ -31,12 +31,12 @@ returns-in-Some-broken_chain-clause-fault c =
 
 pub schedule-requires-clause-right : goal.schedule-requires-clause-right
 schedule-requires-clause-right c =
-    let links : c.as_slice-chained.result.now ≡ chain c.args.legs.now = c.as_slice-chained.ensures ∙ c.in-Ok.ensures in
+    let links : c.as_slice-chained.result.now ≡ chain c.args.legs.now = c.as_slice-chained.ensures.value ∙ c.in-Ok.ensures in
     subst (λ (l : List Leg). All IsRightLeg l) (sym links) (chain_right IsRightLeg c.args.legs.now c.requires.right)
 
 pub returns-clause-ok : goal.returns-clause-ok
 returns-clause-ok c =
-    let links : c.as_slice-chained.result.now ≡ chain c.args.legs.now = c.as_slice-chained.ensures ∙ c.in-Ok.ensures in
+    let links : c.as_slice-chained.result.now ≡ chain c.args.legs.now = c.as_slice-chained.ensures.value ∙ c.in-Ok.ensures in
     let plans : c.as_slice-scheduled.result.now ≡ schedule c.args.plan.now (chain c.args.legs.now) = c.as_slice-scheduled.ensures.value ∙ c.in-Ok-schedule.ensures ∙ ap (schedule c.args.plan.now) links in
     on_ok c.add_chain.result _ _
     (added_chain c.args.plan.now c.args.legs.now c.as_slice-scheduled.result.now c.args.flown.now _ plans
@@ -46,7 +46,7 @@ returns-clause-ok c =
 
 pub returns-clause-fault : goal.returns-clause-fault
 returns-clause-fault c =
-    let links : c.as_slice-chained.result.now ≡ chain c.args.legs.now = c.as_slice-chained.ensures ∙ c.in-Ok.ensures in
+    let links : c.as_slice-chained.result.now ≡ chain c.args.legs.now = c.as_slice-chained.ensures.value ∙ c.in-Ok.ensures in
     let plans : c.as_slice-scheduled.result.now ≡ schedule c.args.plan.now (chain c.args.legs.now) = c.as_slice-scheduled.ensures.value ∙ c.in-Ok-schedule.ensures ∙ ap (schedule c.args.plan.now) links in
     refusal_same c.add_chain.result _ _
     (days_are c.args.plan.now (has_departure c.args.flown.now.taken) (length c.args.flown.now.flights.items) c.args.legs.now c.as_slice-scheduled.result.now plans

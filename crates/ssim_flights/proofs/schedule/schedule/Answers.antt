@@ -6,7 +6,7 @@ use Rattle.ssim_flights.specs.declared.schedule.Scheduled.{Scheduled}
 use Rattle.ssim_flights.proofs.schedule.schedule.Goals as goal
 
 pub loop-leg-init : goal.loop-leg-init
-loop-leg-init c = c.in-Ok.ensures.items
+loop-leg-init c = c.clear.ensures.items
 
 pub loop-leg-preserved : goal.loop-leg-preserved
 loop-leg-preserved c =
@@ -14,7 +14,7 @@ loop-leg-preserved c =
     let i = c.loop-leg.leg-index in
     let leg = c.leg-item.result in
     let front : take (i + 1) legs ≡ take i legs ++ leg ∷ [] = take_more legs i leg (omega arith) ∙ ap (λ (x : Leg). take i legs ++ x ∷ []) (sym c.leg-item.is) in
-    c.in-Ok-push.ensures.items ∙ ap (λ (s : List Scheduled). s ++ c.schedule_leg.result ∷ []) c.loop-leg.invariant
+    c.in-Ok.ensures.items ∙ ap (λ (s : List Scheduled). s ++ c.schedule_leg.result ∷ []) c.loop-leg.invariant
     ∙ ap (λ (s : Scheduled). map (scheduled c.args.plan.now) (take i legs) ++ s ∷ []) c.schedule_leg.ensures
     ∙ sym (map-append (scheduled c.args.plan.now) (take i legs) (leg ∷ [])) ∙ ap (map (scheduled c.args.plan.now)) (sym front)
 
