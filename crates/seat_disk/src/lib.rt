@@ -8,4 +8,4 @@ mod tape;
 
 pub use replaced::{Replaced, replace_whole};
 pub use synced::Synced;
-pub use tape::{Tape, keep};
+pub use tape::{Tape, keep, keep_behind};
