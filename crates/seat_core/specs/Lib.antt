@@ -1,3 +1,4 @@
 pub use Rattle.seat_nesting.specs.Nesting
 pub mod Answers
+pub mod Carrying
 pub mod Stepping

@@ -2,6 +2,7 @@
 //! It knows bookings, waiting lists and legal histories, and nothing of threads, of texts or of where commands come from.
 #![tactic(auto)]
 
+mod carrying;
 mod changes;
 mod inventory;
 mod pass;
@@ -9,6 +10,6 @@ mod replaying;
 mod reply;
 mod sales;
 
-pub use inventory::{Core, Prepared, place_of};
+pub use carrying::carry_out;
+pub use inventory::{Core, Prepared};
 pub use replaying::{are_same_advices, replay};
-pub use reply::{Answer, answer_work};
