@@ -1,3 +1,4 @@
+pub mod Counting
 pub mod Cutting
 pub mod Keeping
 pub mod Syncs

@@ -1,4 +1,5 @@
 pub mod Counts
+pub mod Groups
 pub mod Growing
 pub mod Keeping
 pub mod Leaving
