@@ -1,5 +1,5 @@
 -- What is refused, or fails, behind a set and limits that are right.
-use Rattle.std.proofs.Common.{◌≡◌, ◌≤◌, ◌⊎◌, inl, inr, ℕ, List, Option, Some, None, IfSome, Result, Ok, Err, IfErr, IfOk, length, map, subst, ap, arith, ◌∙◌}
+use Rattle.std.proofs.Common.{◌≡◌, ◌≤◌, inr, ℕ, List, Option, Some, None, IfSome, Result, Ok, Err, IfErr, IfOk, length, map, subst, ap, arith, ◌∙◌}
 use Rattle.std.proofs.lemmas.List.{length-map}
 use Rattle.ssim_flights.specs.declared.flight.Flight.{Flight as Flown}
 use Rattle.seat_limits.specs.Authorised.{authorised_grid, authorised_legs}
@@ -7,12 +7,12 @@ use Rattle.seat_limits.specs.declared.limit_row.LimitRow.{LimitRow}
 use Rattle.seat_nesting.specs.Nesting.{Ladders}
 use Rattle.seat_rules.specs.declared.totals.Totals.{Totals}
 use Rattle.seat_desk.specs.AuditDesk.{audit_line}
-use Rattle.seat_desk.specs.Loading.{Bytes, HasFirstLoadFailed, IsGround, IsGroundOf}
+use Rattle.seat_desk.specs.Loading.{Bytes, IsGround, IsGroundOf}
 use Rattle.seat_desk.specs.declared.inputs.Inputs.{Inputs}
 use Rattle.seat_desk.specs.declared.fault.DeskFault.TheVariants.{Device, Memory, TooLarge}
 use Rattle.seat_shards.specs.declared.fault.ShardFault.{ShardFault}
 use Rattle.seat_shards.specs.declared.fault.ShardFault.TheVariants.{Desk, Journal, Shared}
-use Rattle.seat_shards.specs.Auditing.{HasFirstFailed, IsFirstFailed, IsRefusedOver, IsRefusedShards, IsRefusedShardsOf, IsShardsAnswer, IsShardsAnswerOf, IsTotalled, IsTotalledOf}
+use Rattle.seat_shards.specs.Auditing.{HasFirstFailed, IsFirstFailed, IsRefusedShards, IsRefusedShardsOf, IsShardsAnswer, IsShardsAnswerOf, IsTotalled, IsTotalledOf}
 use Rattle.seat_shards.specs.Faults.{IsOfJournal, IsOfJournals, IsOfShards}
 use Rattle.seat_shards.specs.Taking.{known, AreTotalled, HasFailedAmong, IsFirstRefused}
 

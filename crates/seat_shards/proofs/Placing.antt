@@ -17,10 +17,14 @@ use Rattle.seat_desk.specs.AuditDesk.{journal_fault, journal_fault_of, replay_re
 use Rattle.seat_desk.specs.declared.fault.DeskFault.{DeskFault}
 use Rattle.seat_desk.specs.declared.fault.DeskFault.TheVariants.{Device, Memory, TooLarge}
 use Rattle.seat_shards.specs.declared.fault.ShardFault.{ShardFault}
-use Rattle.seat_shards.specs.declared.fault.ShardFault.TheVariants.{Desk}
-use Rattle.seat_shards.specs.declared.taking.Taken.{Taken}
+use Rattle.seat_shards.specs.declared.fault.ShardFault.TheVariants.{Desk, Shared}
+use Rattle.taken_journals.specs.declared.taken.NotTaken.{NotTaken}
+use Rattle.taken_journals.specs.declared.taken.NotTaken.TheVariants.{Shared as Owned}
+use Rattle.taken_journals.specs.declared.taken.Taken.{Taken}
+use Rattle.taken_journals.specs.Owners.{first_owned}
+use Rattle.taken_journals.specs.Taken.{IsNotTaken, TakesToo}
 use Rattle.seat_shards.specs.Faults.{placed, IsOfJournal, IsOfJournals}
-use Rattle.seat_shards.specs.Taking.{IsLegalText, RefusesMore}
+use Rattle.seat_shards.specs.Taking.{IsLegalText, IsTakenWith, RefusesMore}
 
 -- ---- by itself
 
@@ -65,6 +69,27 @@ pub of_journals : (place : ℕ) (fault : DeskFault) → IsOfJournals (placed pla
 of_journals place Device = tt
 of_journals place Memory = tt
 of_journals place _ = tt
+
+-- a legal text whose lines are taken is taken
+pub taken_with : (grid : Ladders) (old new : Taken) (text : List ℕ) (entries lines : List Entry) (own : Totals)
+    → IsLegalText grid text entries own → lines ≡ entries → TakesToo old new lines own → IsTakenWith grid old new text
+taken_with grid old new text entries lines own read same takes =
+    let all : TakesToo old new entries own = subst (λ (es : List Entry). TakesToo old new es own) same takes in
+    record { entries = entries; own = own; read = read; apart = all.apart; owners = all.owners; count = all.count; sums = all.sums }
+
+pub refused_beside : (grid : Ladders) (taken : Taken) (text : List ℕ) (place number other : ℕ) (entries lines : List Entry) (own : Totals)
+    (fault : NotTaken) → place ≡ taken.count + 1 → IsLegalText grid text entries own → lines ≡ entries → fault ≡ Owned number other
+    → IsNotTaken taken lines own fault → RefusesMore grid taken (Shared place number other) text
+refused_beside grid taken text place number other entries lines own fault next read same is not =
+    let first : first_owned taken.owners.items lines ≡ Some (number, other) = subst (IsNotTaken taken lines own) is not in (
+      next,
+      record {
+        entries = entries;
+        own = own;
+        read = read;
+        first = subst (λ (es : List Entry). first_owned taken.owners.items es ≡ Some (number, other)) same first;
+      },
+    )
 
 -- ---- a journal whose bytes are read
 

@@ -1,8 +1,8 @@
 -- Journals of other flights, one behind the other.
 use Rattle.std.proofs.Math.ListN.{get_or-append}
 use Rattle.std.proofs.Math.Seq.{get_or-append_seam}
-use Rattle.std.proofs.Common.{◌≡◌, ◌≢◌, ◌==◌, ◌||◌, ◌⊎◌, inl, inr, ℕ, zero, suc, ◌+◌, ◌<◌, ◌≤◌, Bool, true, false, nat_lt, List, [], ◌∷◌, ◌++◌, find, length, map, get_or, Option, Some, None, IfSome, option_map, if◌then◌else◌, arith, refl, ap, sym, subst, ◌∙◌, length-append, append_assoc}
-use Rattle.std.specs.List.{list_any, sum_by}
+use Rattle.std.proofs.Common.{◌≡◌, ◌≢◌, ◌==◌, ◌||◌, inl, inr, ℕ, zero, suc, ◌+◌, ◌<◌, ◌≤◌, Bool, true, false, nat_lt, List, [], ◌∷◌, ◌++◌, find, length, map, Option, Some, None, IfSome, option_map, if◌then◌else◌, arith, refl, ap, sym, subst, ◌∙◌, length-append, append_assoc}
+use Rattle.std.specs.List.{sum_by}
 use Rattle.std.proofs.lemmas.Bool.Decides.{nat_tests}
 use Rattle.std.proofs.lemmas.List.{append-nil, get_or_past}
 use Rattle.std.proofs.lemmas.List.Sums.{sum_by_push}
@@ -21,13 +21,12 @@ use Rattle.seat_desk.specs.AuditDesk.{most_lines}
 use Rattle.seat_parts.specs.OwnLines.{of_flight}
 use Rattle.seat_shards.specs.declared.fault.ShardFault.{ShardFault}
 use Rattle.seat_shards.specs.declared.fault.ShardFault.TheVariants.{Desk, Journal, Shared}
-use Rattle.seat_shards.specs.declared.taking.Taken.{Taken}
-use Rattle.seat_shards.specs.Faults.{IsOfJournal}
-use Rattle.seat_shards.specs.Shards.{AreApart, AreShards, IsMix, Tagged, journal_at, merged}
-use Rattle.seat_shards.specs.Owners.{first_owned, first_shared, has_line, is_owned, owner_among, owner_at, owner_from, owner_in, owner_of_flight, AreOwners}
-use Rattle.seat_shards.specs.Taking.{both_of, known, AreShardTexts, AreTakenOn, AreTexts, AreTotalled, HasFailedAmong, HasFailedOn, HasRisenBehind, IsFirstRefused, IsNone, IsRefusedOn, IsTakenWith, IsTextOf, Merge, RefusedOn, RefusesBehind, RefusesMore, RisenOn, TakenOn}
+use Rattle.taken_journals.specs.declared.taken.Taken.{Taken}
+use Rattle.seat_shards.specs.Shards.{AreApart, AreShards, journal_at}
+use Rattle.taken_journals.specs.Owners.{first_owned, first_shared, has_line, is_owned, owner_among, owner_at, owner_from, owner_in, owner_of_flight, AreOwners}
+use Rattle.taken_journals.specs.Taken.{both_of, IsNone}
+use Rattle.seat_shards.specs.Taking.{known, AreShardTexts, AreTakenOn, AreTexts, AreTotalled, HasFailedAmong, HasFailedOn, HasRisenBehind, IsFirstRefused, IsRefusedOn, IsTakenWith, IsTextOf, Merge, RefusedOn, RefusesBehind, RefusesMore, RisenOn, TakenOn}
 use Rattle.seat_shards.proofs.Merged.{merged_is_legal}
-use Rattle.seat_shards.proofs.Owning.{or_false}
 use Rattle.seat_shards.proofs.Sums.{merged_totals}
 
 -- ---- the steps of the recursion

@@ -1,5 +1,5 @@
 -- No journals are both accepted and refused.
-use Rattle.std.proofs.Common.{◌≡◌, ◌≢◌, ◌==◌, ◌||◌, ℕ, zero, suc, ◌+◌, ◌<◌, ◌≤◌, Bool, true, false, nat_lt, List, [], ◌∷◌, ◌++◌, find, length, Option, Some, None, option_map, arith, refl, ap, sym, subst, ◌∙◌}
+use Rattle.std.proofs.Common.{◌≡◌, ◌≢◌, ◌==◌, ℕ, zero, suc, ◌+◌, ◌<◌, ◌≤◌, Bool, true, false, nat_lt, List, [], ◌∷◌, ◌++◌, find, length, Option, Some, None, option_map, arith, refl, ap, sym, subst, ◌∙◌}
 use Rattle.std.proofs.lemmas.Bool.Decides.{nat_tests}
 use Rattle.std.proofs.lemmas.List.{get_or_past}
 use Rattle.seat_nesting.specs.Nesting.{Ladders}
@@ -15,9 +15,9 @@ use Rattle.seat_parts.specs.OwnLines.{of_flight}
 use Rattle.seat_parts.proofs.Flights.{on_its_flight}
 use Rattle.seat_shards.specs.declared.fault.ShardFault.{ShardFault}
 use Rattle.seat_shards.specs.declared.fault.ShardFault.TheVariants.{Desk, Journal, Shared}
-use Rattle.seat_shards.specs.Owners.{first_shared, has_line, owner_among, owner_from}
+use Rattle.taken_journals.specs.Owners.{first_shared, has_line, owner_among, owner_from}
 use Rattle.seat_shards.specs.Shards.{journal_at}
-use Rattle.seat_shards.specs.Taking.{AreTexts, AreTotalled, IsFirstRefused, IsRefusedAlone, IsSharedText, IsTextOf, OneVerdict, RefusesBehind}
+use Rattle.seat_shards.specs.Taking.{AreTexts, AreTotalled, IsRefusedAlone, IsSharedText, IsTextOf, OneVerdict, RefusesBehind}
 
 none_has : (f : ℕ) (xs : List Entry) → of_flight f xs ≡ [] → has_line f xs ≡ false
 none_has f [] h = refl

@@ -1,6 +1,5 @@
 pub mod Shards
 pub mod Laws
-pub mod Owners
 pub mod Faults
 pub mod Taking
 pub mod Auditing

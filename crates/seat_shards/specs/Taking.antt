@@ -10,13 +10,14 @@ use Rattle.seat_rules.specs.Journal.{IsLegal}
 use Rattle.seat_rules.specs.Replaying.{StopsAt}
 use Rattle.seat_rules.specs.Totals.{totals_of}
 use Rattle.seat_rules.specs.declared.totals.Totals.{Totals}
+use Rattle.taken_journals.specs.declared.taken.Taken.{Taken}
+use Rattle.taken_journals.specs.Owners.{first_owned, first_shared, OwnsToo}
+use Rattle.taken_journals.specs.Taken.{both_of}
 use Rattle.seat_desk.specs.AuditDesk.{IsUnlawful, most_journal_bytes, most_lines}
 use Rattle.seat_desk.specs.declared.fault.DeskFault.{DeskFault}
 use Rattle.seat_desk.specs.declared.fault.DeskFault.TheVariants.{TooLarge}
 use Rattle.seat_shards.specs.declared.fault.ShardFault.{ShardFault}
 use Rattle.seat_shards.specs.declared.fault.ShardFault.TheVariants.{Journal, Shared}
-use Rattle.seat_shards.specs.declared.taking.Taken.{Taken}
-use Rattle.seat_shards.specs.Owners.{first_owned, first_shared, OwnsNone, OwnsToo}
 use Rattle.seat_shards.specs.Shards.{AreShards, IsMix, Tagged, merged}
 
 -- the text, which is not too large, is that of the journal
@@ -86,9 +87,6 @@ OneVerdict = (grid : Ladders) (texts : List (List ℕ)) (totals : Totals) (fault
     → IsFirstRefused grid texts fault → ⊥
 
 -- ---- one behind the other
-
-abbrev pub both_of : Totals → Totals → Totals
-both_of a b = record { lines = a.lines + b.lines; confirmed = a.confirmed + b.confirmed; released = a.released + b.released }
 
 -- the text is that of these entries, which are a legal history over the limits and come to this
 pub record IsLegalText (grid : Ladders) (text : List ℕ) (entries : List Entry) (totals : Totals) : Type 0 where
@@ -183,13 +181,3 @@ HasRisenBehind grid before _ _ _ = ⊥
 -- one of these devices has failed, and the journals before it are legal, and no two have a line of one flight
 abbrev pub HasFailedAmong : {D : Type 0} → Ladders → List (Option (List ℕ)) → (D → ℕ) → List D → List D → Type 0
 HasFailedAmong grid texts failures olds news = HasRisenBehind grid [] texts (map failures olds) (map failures news)
-
--- so many flights have a place among those that journals have
-pub record HasPlaces (flights : ℕ) (taken : Taken) : Type 0 where
-  pub enough : flights ≤ length taken.owners.items
-
--- no journal is taken yet
-pub record IsNone (taken : Taken) : Type 0 where
-  pub owners : OwnsNone taken.owners.items
-  pub count : taken.count ≡ 0
-  pub totals : taken.totals ≡ totals_in []

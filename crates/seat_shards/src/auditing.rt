@@ -8,12 +8,13 @@ ghost use Rattle.seat_shards.specs.Faults.{IsOfJournal, IsOfJournals, IsOfShards
 ghost use Rattle.seat_shards.specs.Taking.{known, AreTotalled, HasFailedAmong, IsFirstRefused};
 
 use crate::fault::ShardFault;
-use crate::taking::{Taken, take_all};
+use crate::taking::take_all;
 use airline_base::{NotedRead, NotedWrite, put_all};
 use seat_desk::{DeskFault, Inputs, Loaded, audit_line, load};
 use seat_rules::Totals;
 use std::alloc::Global;
 use std::thread::Threads;
+use taken_journals::Taken;
 
 /// Audits journals over the grid of one data set and limit rows, each of at most 256 MiB, and writes one line with their totals together.
 /// They are accepted exactly where each is a legal history by itself and no two have a line of one flight. Each input is read and checked before

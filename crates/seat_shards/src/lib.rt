@@ -5,9 +5,9 @@
 mod auditing;
 mod fault;
 pub mod laws;
-mod owners;
 mod taking;
 
 pub use auditing::desk_shards;
 pub use fault::ShardFault;
-pub use taking::{Taken, take_one};
+pub use taken_journals::Taken;
+pub use taking::take_one;

@@ -6,7 +6,7 @@ use Rattle.seat_rules.specs.Journal.{calls_of, next_line}
 use Rattle.seat_desk.specs.declared.fault.DeskFault.TheVariants.{Full}
 use Rattle.seat_shards.specs.declared.fault.ShardFault.{ShardFault}
 use Rattle.seat_shards.specs.declared.fault.ShardFault.TheVariants.{Journal}
-use Rattle.seat_shards.specs.declared.taking.Taken.{Taken}
+use Rattle.taken_journals.specs.declared.taken.Taken.{Taken}
 use Rattle.seat_shards.specs.Taking.{IsTakenWith, IsTextOf, RefusesMore}
 use Rattle.shard_questions.specs.Joined.{IsBeyond}
 

@@ -1,6 +1,6 @@
 use Rattle.std.proofs.Common.{◌≡◌, length, take}
-use Rattle.seat_shards.specs.Owners.{OwnsToo}
-use Rattle.seat_shards.proofs.owners.own_all.Given as goal
+use Rattle.taken_journals.specs.Owners.{OwnsToo}
+use Rattle.taken_journals.proofs.owners.own_all.Given as goal
 
 abbrev pub invariant-loop-entry : goal.invariant-loop-entry
 invariant-loop-entry l =

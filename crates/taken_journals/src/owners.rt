@@ -1,7 +1,7 @@
 //! Which of the journals so far has the lines of a flight.
 //! It knows which flight a line is on, and nothing of what it is answered.
 ghost use Rattle.std.specs.Prelude.{◌≡◌, length};
-ghost use Rattle.seat_shards.specs.Owners.{first_owned, is_owned, owner_in, AreWithin, IsWithin, OwnsLine, OwnsToo};
+ghost use Rattle.taken_journals.specs.Owners.{first_owned, is_owned, owner_in, AreWithin, IsWithin, OwnsLine, OwnsToo};
 
 use seat_journal::{Entry, Work};
 use seat_parts::flight_of;

@@ -1,6 +1,6 @@
-use Rattle.std.proofs.Common.{◌+◌, ◌∙◌, length, refl}
-use Rattle.seat_shards.proofs.Owning.{owned_next, owned_none, owned_whole, within_at}
-use Rattle.seat_shards.proofs.owners.own_all.Goals as goal
+use Rattle.std.proofs.Common.{◌∙◌, length, refl}
+use Rattle.taken_journals.proofs.Owning.{owned_next, owned_none, owned_whole, within_at}
+use Rattle.taken_journals.proofs.owners.own_all.Goals as goal
 
 pub loop-entry-init : goal.loop-entry-init
 loop-entry-init c = (owned_none c.args.place c.args.owners.now.items, refl)
