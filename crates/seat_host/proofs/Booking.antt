@@ -15,7 +15,8 @@ use Rattle.seat_rules.proofs.History.Prefixes.{begins_trans, begins_length, begi
 use Rattle.seat_rules.proofs.History.Legal.{legal_push}
 use Rattle.seat_rules.specs.Histories.{of_session}
 use Rattle.seat_display.specs.Faces.{Published}
-use Rattle.seat_host.specs.Lawful.{IsTied, Shows, LawfulUnderLock, AddsLine}
+use Rattle.line_booking.specs.Booking.{AddsLine, Shows}
+use Rattle.seat_host.specs.Lawful.{IsTied, LawfulUnderLock}
 use Rattle.seat_host.specs.Ledgers.{Staked, counted}
 use Rattle.seat_host.specs.Sessions.{Stands, Booked, Seat}
 use Rattle.seat_host.specs.Settling.{IsConfirmed}
@@ -146,14 +147,6 @@ after_call grid cap book n core now line_counts publisher shown opened s old wor
     booking grid cap n core now line_counts s work kept front l.grid_is same l.tied stands
     (subst (λ (x : List Entry × Seat). IsConfirmed n x.0 x.1) (λ i. (l.shown.visible i, sym is i)) c) a
     (subst (λ (x : List Entry). Begins x front) all more) (⊎_elim (λ b. inl b) (λ b. inr (b ∙ all)) longer)
-
--- the line that comes next may be shown behind the others
-pub legal_shown : (core : Inventory) (publisher : Published) (e shown : Entry) → Shows core publisher → shown ≡ e
-    → IsLegal core.grid core.journal → IsNext core.grid core.journal e
-    → IsLegal publisher.grid ((publisher.visible ++ publisher.pending) ++ shown ∷ [])
-legal_shown core publisher e shown s is legal next =
-    let all : publisher.visible ++ publisher.pending ≡ core.journal = (λ i. s.visible i ++ s.pending i) ∙ append-nil core.journal in
-    subst (λ (x : Ladders × (List Entry × Entry)). IsLegal x.0 (x.1.0 ++ x.1.1 ∷ [])) (λ i. (sym s.grid_is i, (sym all i, sym is i))) (legal_push core.grid core.journal e legal next)
 
 -- what holds under the lock holds with one line more
 pub lawful_push : (grid : Ladders) (cap : ℕ) (book : Book) (n : ℕ) (core now : Inventory)

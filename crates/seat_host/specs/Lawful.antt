@@ -1,12 +1,12 @@
 -- What holds of the inventory, the counts of lines and the publisher whenever the lock is free.
-use Rattle.std.specs.Prelude.{◌≡◌, ℕ, ◌+◌, ◌<◌, ◌≤◌, List, [], ◌∷◌, ◌++◌, length, slice_index}
+use Rattle.std.specs.Prelude.{◌≡◌, ℕ, ◌<◌, ◌≤◌, List, length, slice_index}
 use Rattle.logbook.specs.Pages.{Book}
 use Rattle.seat_nesting.specs.Nesting.{Ladders}
-use Rattle.seat_journal.specs.declared.entry.Work.{Work}
 use Rattle.seat_journal.specs.declared.entry.Entry.{Entry}
-use Rattle.seat_rules.specs.Inventory.{Inventory, HoldsWithinLimits}
-use Rattle.seat_rules.specs.Journal.{IsLegal, IsNext, calls_of, next_line}
+use Rattle.seat_rules.specs.Inventory.{Inventory}
+use Rattle.seat_rules.specs.Journal.{IsLegal}
 use Rattle.seat_display.specs.Faces.{Published}
+use Rattle.line_booking.specs.Booking.{Shows}
 use Rattle.seat_rules.specs.Histories.{of_session, OnlyFirst}
 
 -- the journal beside the counts of lines of n sessions
@@ -29,12 +29,6 @@ pub record CountsFirst (n : ℕ) (journal : List Entry) (line_counts : List ℕ)
   pub own : (s : ℕ) → s < n → slice_index line_counts s ≡ length (of_session s journal)
   pub none : (s : ℕ) → n ≤ s → s < 9 → slice_index line_counts s ≡ 0
 
--- what viewers find is the journal, over the same limits, and nothing is pending
-pub record Shows (core : Inventory) (publisher : Published) : Type 0 where
-  pub grid_is : publisher.grid ≡ core.grid
-  pub visible : publisher.visible ≡ core.journal
-  pub pending : publisher.pending ≡ []
-
 pub record LawfulUnderLock (grid : Ladders) (cap : ℕ) (book : Book) (n : ℕ) (core : Inventory) (line_counts : List ℕ)
     (publisher : Published) (opened : ℕ) : Type 0 where
   -- the inventory is over the host's limits, and takes cap lines
@@ -47,13 +41,3 @@ pub record LawfulUnderLock (grid : Ladders) (cap : ℕ) (book : Book) (n : ℕ) 
   pub shown : Shows core publisher
   -- the journal is legal, and each count is of its session's lines
   pub tied : IsTied grid cap n line_counts core.journal
-
--- the inventory took one line more, the next one of this session with this work, and its receipt was kept
-pub record AddsLine (old new : Inventory) (session : ℕ) (work : Work) (receipts kept : List Entry) : Type 0 where
-  pub line : Entry
-  pub is : line ≡ next_line old.grid old.journal session (calls_of old.journal session + 1) work
-  pub next : IsNext old.grid old.journal line
-  pub below : length old.journal < old.cap
-  pub journal_is : new.journal ≡ old.journal ++ line ∷ []
-  pub within : HoldsWithinLimits new.grid new.journal
-  pub kept_is : kept ≡ receipts ++ line ∷ []

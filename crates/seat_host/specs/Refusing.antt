@@ -5,7 +5,7 @@ use Rattle.seat_nesting.specs.Nesting.{Ladders}
 use Rattle.seat_journal.specs.declared.entry.Entry.{Entry}
 use Rattle.seat_rules.specs.Prefixes.{Begins}
 use Rattle.seat_rules.specs.Journal.{IsLegal}
-use Rattle.seat_host.specs.declared.under_lock.BookFault.TheVariants.{JournalFull, Memory}
+use Rattle.line_booking.specs.declared.booking.BookFault.TheVariants.{JournalFull, Memory}
 use Rattle.seat_host.specs.declared.under_lock.Refusal.{Refusal}
 
 -- What the lock held was this host's journal, a legal history, which begins with what the session has seen. It was full where the fault says so, and at want of memory it had a line left

@@ -7,13 +7,13 @@ ghost use Rattle.seat_rules.specs.Journal.{FitsChange, FitsSale, IsLegal};
 ghost use Rattle.seat_journal.specs.declared.entry.Work.TheVariants.{Limit, Sale};
 ghost use Rattle.seat_host.specs.Refusing.{IsDue};
 ghost use Rattle.seat_host.specs.Sessions.{Booked, Waits};
-ghost use Rattle.seat_host.specs.declared.under_lock.BookFault.TheVariants.{JournalFull, Memory as NoMemory};
+ghost use Rattle.line_booking.specs.declared.booking.BookFault.TheVariants.{JournalFull, Memory as NoMemory};
 
 use crate::host::Host;
 use crate::ledgers::Hosting;
 use crate::party::Party;
-use crate::receipt::Receipt;
 use crate::under_lock::Refusal;
+use line_booking::Receipt;
 use seat_display::Sight;
 use seat_journal::{Change, SaleChange};
 use std::alloc::Global;

@@ -9,7 +9,7 @@ ghost use Rattle.seat_rules.specs.Histories.{of_session};
 ghost use Rattle.seat_host.specs.Sessions.{seated};
 
 use crate::ledgers::{Hosting, Stake};
-use crate::receipt::Receipt;
+use line_booking::Receipt;
 use seat_display::{Sight, Viewer};
 use std::marker::Model;
 

@@ -26,8 +26,8 @@ use Rattle.seat_rules.specs.Headline.{Headline}
 use Rattle.seat_desk.specs.AuditDesk.{most_lines}
 use Rattle.seat_rules.specs.Agreement.{receipts_in}
 use Rattle.seat_workers.specs.Working.{AllHaveBegun, AllHaveRun, HasRun, IsRefused, NamesFirst, works_of}
-use Rattle.seat_host.specs.declared.under_lock.BookFault.{BookFault}
-use Rattle.seat_host.specs.declared.under_lock.BookFault.TheVariants.{JournalFull as Full, Memory as NoRoom}
+use Rattle.line_booking.specs.declared.booking.BookFault.{BookFault}
+use Rattle.line_booking.specs.declared.booking.BookFault.TheVariants.{JournalFull as Full, Memory as NoRoom}
 use Rattle.seat_workers.specs.declared.workers.RunFault.{RunFault}
 use Rattle.seat_desk.specs.declared.fault.DeskFault.{DeskFault}
 use Rattle.seat_desk.specs.declared.fault.DeskFault.TheVariants.{Memory}

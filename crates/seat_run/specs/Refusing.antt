@@ -2,8 +2,8 @@
 use Rattle.std.specs.Prelude.{ℕ}
 use Rattle.seat_desk.specs.declared.fault.DeskFault.{DeskFault}
 use Rattle.seat_desk.specs.declared.fault.DeskFault.TheVariants.{Book, Memory}
-use Rattle.seat_host.specs.declared.under_lock.BookFault.{BookFault}
-use Rattle.seat_host.specs.declared.under_lock.BookFault.TheVariants.{JournalFull as Full, Memory as NoRoom}
+use Rattle.line_booking.specs.declared.booking.BookFault.{BookFault}
+use Rattle.line_booking.specs.declared.booking.BookFault.TheVariants.{JournalFull as Full, Memory as NoRoom}
 use Rattle.seat_workers.specs.declared.workers.RunFault.{RunFault}
 
 -- a full journal names the session and its call; want of memory names none

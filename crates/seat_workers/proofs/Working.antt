@@ -18,7 +18,7 @@ use Rattle.seat_rules.proofs.History.Prefixes.{begins_trans, begins_itself}
 use Rattle.seat_host.specs.Refusing.{IsDue}
 use Rattle.seat_host.specs.Sessions.{Seat}
 use Rattle.seat_workers.specs.Working.{Asks, HasRun, HasBegun, IsRefused, AllHaveRun, AllHaveBegun, AllHaveEnded, NamesFirst, first_of}
-use Rattle.seat_host.specs.declared.under_lock.BookFault.TheVariants.{JournalFull}
+use Rattle.line_booking.specs.declared.booking.BookFault.TheVariants.{JournalFull}
 use Rattle.seat_workers.specs.declared.workers.RunFault.{RunFault}
 
 map_append : {A : Type 0} (f : A → Work) (xs ys : List A) → map f (xs ++ ys) ≡ map f xs ++ map f ys

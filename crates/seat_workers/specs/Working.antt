@@ -11,7 +11,7 @@ use Rattle.seat_rules.specs.Histories.{works_in}
 pub use Rattle.seat_rules.specs.Histories.{works_of}
 use Rattle.seat_host.specs.Refusing.{IsDue}
 use Rattle.seat_host.specs.Sessions.{Seat}
-use Rattle.seat_host.specs.declared.under_lock.BookFault.TheVariants.{JournalFull}
+use Rattle.line_booking.specs.declared.booking.BookFault.TheVariants.{JournalFull}
 use Rattle.seat_workers.specs.declared.workers.RunFault.{RunFault}
 
 -- a session may ask for this, which fits the limits

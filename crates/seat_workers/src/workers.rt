@@ -4,7 +4,7 @@ ghost use Rattle.std.specs.Thread.{IsSync, IsSend};
 ghost use Rattle.seat_rules.specs.Journal.{FitsCommand, FitsControl};
 ghost use Rattle.seat_journal.specs.Controls.{set_by};
 ghost use Rattle.seat_journal.specs.declared.entry.Work.TheVariants.{Seats};
-ghost use Rattle.seat_host.specs.declared.under_lock.BookFault.TheVariants.{JournalFull};
+ghost use Rattle.line_booking.specs.declared.booking.BookFault.TheVariants.{JournalFull};
 ghost use Rattle.seat_host.specs.Refusing.{IsDue};
 ghost use Rattle.seat_workers.specs.Working.{Asks, HasRun, HasEnded, IsRefused, AllHaveEnded, first_of};
 ghost use Rattle.seat_rules.specs.Histories.{seats_in, works_of};

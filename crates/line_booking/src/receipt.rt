@@ -26,7 +26,8 @@ impl Receipt {
         &self.entry
     }
 
-    pub(crate) fn of(entry: Entry) -> Receipt
+    /// The receipt of a line.
+    pub fn of(entry: Entry) -> Receipt
         ensures { result ≡ entry }
     {
         Receipt { entry }
