@@ -1,3 +1,4 @@
+pub mod After
 pub mod Answered
 pub mod Auditing
 pub mod Grounds

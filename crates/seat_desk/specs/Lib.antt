@@ -1,3 +1,4 @@
+pub mod After
 pub mod Answering
 pub mod AuditDesk
 pub mod CheckDesk

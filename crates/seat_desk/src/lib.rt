@@ -11,6 +11,7 @@ mod question;
 mod replaying;
 mod schedule;
 mod sealing;
+mod standing;
 mod streams;
 mod text;
 
@@ -26,5 +27,6 @@ pub use replaying::{
 };
 pub use schedule::{MOST_SET_BYTES, data_set, scheduled};
 pub use sealing::agreed;
+pub use standing::Standing;
 pub use streams::read_input;
 pub use text::{put, put_designator, put_head, put_number, put_way};
