@@ -1,17 +1,12 @@
 -- The answer over a journal.
-use Rattle.std.proofs.Common.{◌≡◌, ℕ, List, length, Option, ap, subst, ◌∙◌}
+use Rattle.std.proofs.Common.{◌≡◌, ℕ, List, length, ap, subst, ◌∙◌}
 use Rattle.airimp_lines.specs.declared.requests.Request.{Request}
 use Rattle.ssim_flights.specs.declared.flight.Flight.{Flight as Flown}
 use Rattle.seat_journal.specs.declared.entry.Entry.{Entry}
-use Rattle.seat_nesting.specs.Nesting.{Ladders}
-use Rattle.seat_rules.specs.Inventory.{Inventory, state_now}
-use Rattle.seat_rules.specs.Journal.{replay}
 use Rattle.seat_rules.specs.declared.booking.Booking.{Booking}
-use Rattle.seat_desk.specs.AuditDesk.{IsReplayOf}
 use Rattle.partner_questions.specs.DifferenceText.{IsDifferenceText}
 use Rattle.partner_questions.specs.Differences.{differences, same_lines}
-use Rattle.partner_questions.specs.Here.{compared}
-use Rattle.partner_questions.specs.Reconciled.{IsReconciledOver, Reconciles}
+use Rattle.partner_questions.specs.Reconciled.{Reconciles}
 use Rattle.partner_questions.specs.declared.difference.Difference.{Difference}
 
 pub answered : (flights : List Flown) (journal lines : List Entry) (bookings items slice : List Booking) (theirs : List Request)
@@ -32,15 +27,3 @@ pub counted : (flights : List Flown) (journal lines : List Entry) (bookings item
 counted flights journal lines bookings items slice theirs all n e1 e2 e3 are is =
     is ∙ ap (λ (l : List Difference). length l) are ∙ ap (λ (l : List Booking). length (differences flights lines l theirs)) (e3 ∙ e2)
     ∙ ap (λ (l : List Entry). length (differences flights l bookings theirs)) e1
-
-pub over_journal : (flights : List Flown) (grid : Ladders) (session : Option ℕ) (theirs : List Request) (bytes text : List ℕ) (core : Inventory)
-    → IsReplayOf grid bytes core → Reconciles flights core.journal (compared flights session core.journal (state_now core).bookings) theirs text
-    → IsReconciledOver flights grid session theirs bytes text
-over_journal flights grid session theirs bytes text core r is = record {
-  entries = core.journal;
-  is_text = r.is_text;
-  legal = r.legal;
-  few = r.few;
-  reconciles = subst (λ (g : Ladders). Reconciles flights core.journal (compared flights session core.journal (replay g core.journal).bookings) theirs text)
-      r.grid_is is;
-}

@@ -1,12 +1,11 @@
 //! `reconcile`: in what a partner's list and the live bookings of a journal differ.
 //! It knows whose bookings are compared, and nothing of how one is found or how a difference reads.
-ghost use Rattle.std.specs.Prelude.{◌≡◌, ◌≢◌, ◌≤◌, IfErr, IfOk, length};
+ghost use Rattle.std.specs.Prelude.{◌≡◌, IfOk, length};
 ghost use Rattle.seat_rules.specs.Inventory.{state_now};
-ghost use Rattle.seat_desk.specs.AuditDesk.{IsUnlawful, most_journal_bytes};
 ghost use Rattle.seat_desk.specs.Loading.{IsGridOf};
 ghost use Rattle.partner_questions.specs.Here.{compared};
 ghost use Rattle.partner_questions.specs.Differences.{differences};
-ghost use Rattle.partner_questions.specs.Reconciled.{IsReconciledOver, Reconciles};
+ghost use Rattle.partner_questions.specs.Reconciled.{Reconciles};
 
 use crate::comparing::differences;
 use crate::here::compared;
@@ -14,15 +13,13 @@ use crate::text::text_of;
 use airimp_lines::Request;
 use airline_base::Memory;
 use seat_core::Core;
-use seat_desk::{DeskFault, Loaded, Question, replayed_in_parts};
-use seat_nesting::Grid;
+use seat_desk::Standing;
 use ssim_flights::Flights;
-use std::alloc::Global;
+use std::alloc::{AllocError, Global};
 use std::cell::Cell;
-use std::thread::Threads;
 
 /// In what the lines of a list and the live bookings of a journal differ, a line each, and a last line with the lines of the list that are the same and
-/// the number of differences. A journal is refused as an audit refuses it.
+/// the number of differences.
 #[derive(Clone, Copy)]
 pub struct ReconcileOf<'a> {
     pub theirs: &'a [Request],
@@ -32,42 +29,27 @@ pub struct ReconcileOf<'a> {
     pub differ: &'a Cell<usize>,
 }
 
-impl<'a> Question for ReconcileOf<'a> {
-    ghost use Rattle.seat_desk.specs.AuditDesk.{IsUnlawful};
-    ghost use Rattle.partner_questions.specs.Reconciled.{IsReconciledOver};
+impl<'a> Standing for ReconcileOf<'a> {
+    ghost use Rattle.seat_rules.specs.Journal.{replay};
+    ghost use Rattle.partner_questions.specs.Here.{compared};
+    ghost use Rattle.partner_questions.specs.Reconciled.{Reconciles};
 
-    ghost answers = { λ asked flights rows grid journal text. IsReconciledOver flights grid asked.session asked.theirs.now journal text };
+    ghost tells = { λ asked flights grid entries text.
+        Reconciles flights entries (compared flights asked.session entries (replay grid entries).bookings) asked.theirs.now text };
 
-    ghost refuses = { λ asked grid fault journal. IsUnlawful grid fault journal };
-
-    #[tactic(auto, using(seat_desk::proofs::Grounds::grid_of_rows))]
-    fn text<R: Threads + Sync>(
+    fn standing(
         &self,
-        rt: &R,
         alloc: Global,
-        loaded: Loaded,
-        journal: Vec<u8>,
-    ) -> Result<Vec<u8>, DeskFault> {
-        let Loaded {
-            flights,
-            rows,
-            grid,
-        } = loaded;
-        drop(rows);
-        let answer = match reconciled(
-            rt,
-            alloc,
-            &flights,
-            grid,
-            journal,
-            self.session,
-            self.theirs,
-        ) {
-            Ok(answer) => answer,
-            Err(fault) => return Err(fault),
-        };
-        self.differ.set(answer.differ);
-        Ok(answer.text)
+        flights: &Flights,
+        core: &Core,
+    ) -> Result<Vec<u8>, AllocError> {
+        match answer_of(alloc, flights, core, self.session, self.theirs) {
+            Ok(answer) => {
+                self.differ.set(answer.differ);
+                Ok(answer.text)
+            }
+            Err(_) => Err(AllocError),
+        }
     }
 }
 
@@ -76,30 +58,6 @@ impl<'a> Question for ReconcileOf<'a> {
 struct Answer {
     text: Vec<u8>,
     differ: usize,
-}
-
-/// The differences, if the bytes are a legal history over these limits.
-#[tactic(auto, using(crate::proofs::Reconciling::over_journal, seat_lists::proofs::LiveTexts::grid_after))]
-fn reconciled<R: Threads + Sync>(
-    rt: &R,
-    alloc: Global,
-    flights: &Flights,
-    grid: Grid,
-    bytes: Vec<u8>,
-    session: Option<u8>,
-    theirs: &[Request],
-) -> Result<Answer, DeskFault>
-    requires size { length bytes.items ≤ most_journal_bytes }
-    requires grid { IsGridOf flights.now grid }
-    ensures ok { IfOk result (λ a. IsReconciledOver flights.now grid session theirs.now bytes.items a.text.items) }
-    ensures fault { IfErr result (λ f. f ≢ DeskFault.Memory → IsUnlawful grid f bytes.items) }
-    ensures kind { IfErr result (λ f. (f ≢ DeskFault.Device) × (f ≢ DeskFault.TooLarge)) }
-{
-    let core = replayed_in_parts(rt, alloc, grid, bytes)?;
-    match answer_of(alloc, flights, &core, session, theirs) {
-        Ok(answer) => Ok(answer),
-        Err(_) => Err(DeskFault::Memory),
-    }
 }
 
 /// The answer over an inventory, with the number of its differences.
