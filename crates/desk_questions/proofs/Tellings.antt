@@ -2,23 +2,7 @@
 use Rattle.std.proofs.Common.{◌≡◌, ℕ, List, [], ◌++◌, ◌∙◌, ap, sym, subst}
 use Rattle.ssim_flights.specs.declared.flight.Flight.{Flight as Flown}
 use Rattle.seat_journal.specs.declared.entry.Entry.{Entry}
-use Rattle.seat_nesting.specs.Nesting.{Ladders}
-use Rattle.seat_rules.specs.Inventory.{Inventory}
-use Rattle.seat_desk.specs.AuditDesk.{IsReplayOf}
 use Rattle.desk_telling.specs.Telling.{AreTold, AreToldBehind, Telling, told_behind}
-use Rattle.desk_questions.specs.ToldDesk.{IsToldOver}
-use Rattle.std.specs.Prelude.{◌-◌}
-
-pub over_journal : (flights : List Flown) (grid : Ladders) (bytes text : List ℕ) (desk from : ℕ) (core : Inventory)
-    → IsReplayOf grid bytes core → AreTold flights desk (told_behind core.journal desk (from - 1)) text
-    → IsToldOver flights grid desk from bytes text
-over_journal flights grid bytes text desk from core r are = record {
-  entries = core.journal;
-  is_text = r.is_text;
-  legal = r.legal;
-  few = r.few;
-  are_told = are;
-}
 
 -- what is told behind nothing is all
 pub told_whole : (flights : List Flown) (desk : ℕ) (lines journal : List Entry) (n m : ℕ) (old new : List ℕ) → old ≡ []

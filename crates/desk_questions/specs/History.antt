@@ -1,23 +1,18 @@
 -- What `history` writes: what the lines of a journal did for what is wanted of it, in their order.
-use Rattle.std.specs.Prelude.{◌≡◌, ◌≤◌, ◌==◌, ◌&&◌, ◌||◌, ℕ, Bool, is_none, nat_eq, List, [], ◌∷◌, ◌++◌, length, decimal, codes, Option, Some, None, if◌then◌else◌}
+use Rattle.std.specs.Prelude.{◌≡◌, ◌==◌, ◌&&◌, ◌||◌, ℕ, Bool, is_none, nat_eq, List, [], ◌∷◌, ◌++◌, length, decimal, codes, Option, Some, None, if◌then◌else◌}
 use Rattle.std.specs.Cmp.Lexicographic.{pointwise}
 use Rattle.std.specs.List.{flat_map, list_any}
 use Rattle.airline_base.specs.declared.place.Place.{Place}
 use Rattle.ssim_flights.specs.declared.flight.Flight.{Flight as Flown}
-use Rattle.seat_journal.specs.Text.{IsJournalText}
 use Rattle.seat_journal.specs.declared.entry.Advice.{Advice}
 use Rattle.seat_journal.specs.declared.entry.Command.{Command}
 use Rattle.seat_journal.specs.declared.entry.Entry.{Entry}
 use Rattle.seat_journal.specs.declared.entry.Work.{Work}
 use Rattle.seat_journal.specs.declared.entry.Work.TheVariants.{Seats, Limit, Sale}
-use Rattle.seat_nesting.specs.Nesting.{Ladders}
 use Rattle.seat_rules.specs.Applying.{effect_of}
-use Rattle.seat_rules.specs.Journal.{IsLegal}
 use Rattle.seat_rules.specs.declared.effect.Effect.{Effect}
 use Rattle.seat_rules.specs.declared.effect.Effect.TheVariants.{Holds, Waits, Reduces, Nothing}
-use Rattle.seat_desk.specs.AuditDesk.{most_lines}
 use Rattle.seat_desk.specs.FlightsDesk.{IsText}
-use Rattle.seat_lists.specs.LiveBookings.{names_one}
 use Rattle.seat_lists.specs.Picking.{keeps_place}
 use Rattle.seat_lists.specs.declared.picking.Wanted.{Wanted}
 use Rattle.desk_telling.specs.Segments.{segment_of}
@@ -108,14 +103,6 @@ IsEventLine alone flights (Confirmed e a c) line = IsConfirmedLine alone flights
 -- a line for each
 abbrev pub IsHistoryText : Bool → List Flown → List Event → List ℕ → Type 0
 IsHistoryText alone flights events text = IsText (λ n. IsEventLine alone flights) 0 events text
-
--- the bytes are the text of a legal history over these limits, and the text has what its lines did for what is wanted
-pub record IsHistoryOver (flights : List Flown) (grid : Ladders) (wanted : Wanted) (bytes text : List ℕ) : Type 0 where
-  pub entries : List Entry
-  pub is_text : IsJournalText bytes entries
-  pub legal : IsLegal grid entries
-  pub few : length entries ≤ most_lines
-  pub are_lines : IsHistoryText (names_one wanted) flights (history_of entries (is_wanted flights wanted)) text
 
 -- ---- the parts of the text
 
