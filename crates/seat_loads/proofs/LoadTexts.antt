@@ -3,11 +3,9 @@ use Rattle.std.proofs.Common.{arith, Bool, true, false, ◌≡◌, ℕ, ◌+◌,
 use Rattle.std.specs.List.{flat_map}
 use Rattle.std.proofs.Math.ListN.{drop_of_length-le}
 use Rattle.std.proofs.lemmas.List.{append-nil}
-use Rattle.seat_questions.proofs.Common.{DatedLeg, Flight, Fits, Ladders, Steps, Entry, replay, State, IsLegText}
+use Rattle.seat_questions.proofs.Common.{DatedLeg, Flight, Fits, Ladders, Steps, State, IsLegText}
 use Rattle.seat_nesting.specs.Nesting.{ByClass, held_from, ladder_at, legs_of}
 use Rattle.seat_nesting.specs.declared.ladder.Step.{Step}
-use Rattle.seat_rules.specs.Inventory.{Inventory, state_now}
-use Rattle.seat_desk.specs.AuditDesk.{IsReplayOf}
 use Rattle.seat_desk.specs.FlightsDesk.{IsPut, IsText, head_text}
 use Rattle.seat_questions.specs.Rooms.{bars_text}
 use Rattle.seat_questions.specs.declared.rooms.Bars.{Bars}
@@ -16,23 +14,11 @@ use Rattle.seat_lists.specs.Picking.{keeps_flight}
 use Rattle.seat_rules.specs.Bookings.{held, waiting}
 use Rattle.seat_questions.specs.Why.{one_leg, room_text, wait_text}
 use Rattle.seat_loads.specs.Legs.{classes_text, held_on, is_kept, load_text, load_texts, share_text, standing_text, top_limit}
-use Rattle.seat_loads.specs.Loads.{AreLoadsAfter, IsFlightPart, IsFlightPartBy, IsLegLine, IsLegPart, IsLegPartBy, IsLoadsText, IsPutBehind}
+use Rattle.seat_loads.specs.Loads.{IsFlightPart, IsFlightPartBy, IsLegLine, IsLegPart, IsLegPartBy, IsLoadsText, IsPutBehind}
 use Rattle.seat_loads.specs.Sums.{AreSums, sums_text}
 use Rattle.seat_loads.specs.declared.loads.LoadsOf.{LoadsOf}
 use Rattle.seat_loads.specs.declared.sums.Sums.{Sums}
 use Rattle.ssim_flights.proofs.Walks.{drop_step}
-
--- the loads of the inventory that the journal comes to are those that the journal leaves
-pub loads_of_replay : (asked : LoadsOf) (flights : List Flight) (grid : Ladders) (bytes text : List ℕ)
-    (core : Inventory) → IsReplayOf grid bytes core
-    → IsLoadsText asked (state_now core) flights text → AreLoadsAfter asked flights grid bytes text
-loads_of_replay asked flights grid bytes text core is listed = record {
-  entries = core.journal;
-  is_text = is.is_text;
-  legal = is.legal;
-  few = is.few;
-  listed = subst (λ (g : Ladders). IsLoadsText asked (replay g core.journal) flights text) is.grid_is listed;
-}
 
 pub text_put : (asked : LoadsOf) (s : State) (flights : List Flight) (lines text : List ℕ) (sums : Sums)
     → IsText (IsFlightPart asked s) 0 flights lines → AreSums asked s flights sums → text ≡ lines ++ sums_text sums

@@ -1,13 +1,8 @@
 -- What `loads` writes: a line for each leg that is kept, and one of sums.
-use Rattle.std.specs.Prelude.{◌≡◌, ◌≤◌, ℕ, Bool, true, false, List, [], ◌∷◌, ◌++◌, length, Option}
+use Rattle.std.specs.Prelude.{◌≡◌, ℕ, Bool, true, false, List, [], ◌∷◌, ◌++◌, Option}
 use Rattle.ssim_flights.specs.declared.flight.DatedLeg.{DatedLeg}
 use Rattle.ssim_flights.specs.declared.flight.Flight.{Flight as Flown}
-use Rattle.seat_journal.specs.Text.{IsJournalText}
-use Rattle.seat_journal.specs.declared.entry.Entry.{Entry}
-use Rattle.seat_nesting.specs.Nesting.{Ladders}
-use Rattle.seat_rules.specs.Journal.{IsLegal, replay}
 use Rattle.seat_rules.specs.Sequential.{State}
-use Rattle.seat_desk.specs.AuditDesk.{most_lines}
 use Rattle.seat_desk.specs.FlightsDesk.{IsLegText, IsText, head_text}
 use Rattle.seat_questions.specs.Rooms.{bars_text}
 use Rattle.seat_questions.specs.Why.{one_leg}
@@ -53,11 +48,3 @@ pub record IsLoadsText (asked : LoadsOf) (s : State) (flights : List Flown) (tex
   pub sums : Sums
   pub are_sums : AreSums asked s flights sums
   pub written : text ≡ lines ++ sums_text sums
-
--- the bytes are the text of a legal history over these limits, and the text has the loads that it leaves
-pub record AreLoadsAfter (asked : LoadsOf) (flights : List Flown) (grid : Ladders) (journal text : List ℕ) : Type 0 where
-  pub entries : List Entry
-  pub is_text : IsJournalText journal entries
-  pub legal : IsLegal grid entries
-  pub few : length entries ≤ most_lines
-  pub listed : IsLoadsText asked (replay grid entries) flights text

@@ -1,25 +1,23 @@
 //! `loads`: a line for each dated leg that is kept, and one of sums.
 //! It knows which legs are kept, and not what a line says.
-ghost use Rattle.std.specs.Prelude.{◌≡◌, ◌≢◌, ◌<◌, ◌≤◌, [], IfErr, IfOk, OnOk, length};
+ghost use Rattle.std.specs.Prelude.{◌≡◌, ◌<◌, ◌≤◌, IfOk, OnOk, length};
 ghost use Rattle.seat_nesting.specs.Nesting.{legs_of};
 ghost use Rattle.seat_rules.specs.Inventory.{state_now};
-ghost use Rattle.seat_desk.specs.AuditDesk.{IsUnlawful, most_journal_bytes, most_lines};
+ghost use Rattle.seat_desk.specs.AuditDesk.{most_lines};
 ghost use Rattle.seat_desk.specs.FlightsDesk.{IsPut, IsText};
 ghost use Rattle.seat_desk.specs.Loading.{IsGridOf};
 ghost use Rattle.seat_loads.specs.Legs.{is_kept};
-ghost use Rattle.seat_loads.specs.Loads.{AreLoadsAfter, IsFlightPart, IsLegPart, IsLoadsText, IsPutBehind};
+ghost use Rattle.seat_loads.specs.Loads.{IsFlightPart, IsLegPart, IsPutBehind};
 
 use crate::leg::put_leg;
 use crate::sums::{put_sums, sums_of};
 use airline_base::Day;
 use seat_core::Core;
-use seat_desk::{DeskFault, Loaded, Question, replayed_in_parts};
+use seat_desk::Standing;
 use seat_lists::{Designator, keeps_flight};
-use seat_nesting::Grid;
 use seat_questions::{Bars, CityPair, keeps_day, keeps_pair};
 use ssim_flights::{DatedLeg, Flight, Flights};
 use std::alloc::{AllocError, Global};
-use std::thread::Threads;
 
 /// Which legs are asked for.
 #[derive(Clone, Copy)]
@@ -36,85 +34,24 @@ pub struct LoadsOf {
 
 /// A line for each leg that is kept, by flight and leg: the seats that are held of its highest limit and that share per mille, and for
 /// each class the seats held in it and those below of its limit, its room, and the seats that wait of those that may. Last a line of
-/// sums. A journal is refused as an audit refuses it.
-impl Question for LoadsOf {
-    ghost use Rattle.seat_desk.specs.AuditDesk.{IsUnlawful};
-    ghost use Rattle.seat_loads.specs.Loads.{AreLoadsAfter};
+/// sums.
+impl Standing for LoadsOf {
+    ghost use Rattle.seat_rules.specs.Journal.{replay};
+    ghost use Rattle.seat_loads.specs.Loads.{IsLoadsText};
 
-    ghost answers = { λ asked flights rows grid journal text. AreLoadsAfter asked flights grid journal text };
+    ghost tells = { λ asked flights grid entries text. IsLoadsText asked (replay grid entries) flights text };
 
-    ghost refuses = { λ asked grid fault journal. IsUnlawful grid fault journal };
-
-    #[tactic(auto, using(seat_desk::proofs::Grounds::grid_of_rows))]
-    fn text<R: Threads + Sync>(
+    #[tactic(auto, using(crate::proofs::LoadTexts::text_put))]
+    fn standing(
         &self,
-        rt: &R,
         alloc: Global,
-        loaded: Loaded,
-        journal: Vec<u8>,
-    ) -> Result<Vec<u8>, DeskFault> {
-        let Loaded {
-            flights,
-            rows,
-            grid,
-        } = loaded;
-        drop(rows);
-        loads_after(rt, alloc, &flights, grid, journal, self)
+        flights: &Flights,
+        core: &Core,
+    ) -> Result<Vec<u8>, AllocError> {
+        let mut text = lines_of(alloc, flights, core, self)?;
+        put_sums(&mut text, &sums_of(flights, core, self))?;
+        Ok(text)
     }
-}
-
-/// The loads that a journal's text leaves, if it is that of a legal history over these limits.
-#[tactic(auto, using(seat_questions::proofs::RoomTexts::grid_kept, crate::proofs::LoadTexts::loads_of_replay))]
-fn loads_after<R: Threads + Sync>(
-    rt: &R,
-    alloc: Global,
-    flights: &Flights,
-    grid: Grid,
-    bytes: Vec<u8>,
-    asked: &LoadsOf,
-) -> Result<Vec<u8>, DeskFault>
-    requires size { length bytes.items ≤ most_journal_bytes }
-    requires grid { IsGridOf flights.now grid }
-    ensures ok { IfOk result (λ text. AreLoadsAfter asked.now flights.now grid bytes.items text.items) }
-    ensures fault { IfErr result (λ f. f ≢ DeskFault.Memory → IsUnlawful grid f bytes.items) }
-    ensures kind { IfErr result (λ f. (f ≢ DeskFault.Device) × (f ≢ DeskFault.TooLarge)) }
-{
-    let core = replayed_in_parts(rt, alloc, grid, bytes)?;
-    listed(alloc, flights, &core, asked)
-}
-
-/// The loads after the lines so far.
-fn listed(
-    alloc: Global,
-    flights: &Flights,
-    core: &Core,
-    asked: &LoadsOf,
-) -> Result<Vec<u8>, DeskFault>
-    requires grid { IsGridOf flights.now core.now.grid }
-    requires capped { core.now.cap ≤ most_lines }
-    ensures ok { IfOk result (λ text. IsLoadsText asked.now (state_now core.now) flights.now text.items) }
-    ensures memory { IfErr result (λ f. f ≡ DeskFault.Memory) }
-{
-    match text_of(alloc, flights, core, asked) {
-        Ok(text) => Ok(text),
-        Err(_) => Err(DeskFault::Memory),
-    }
-}
-
-#[tactic(auto, using(crate::proofs::LoadTexts::text_put))]
-fn text_of(
-    alloc: Global,
-    flights: &Flights,
-    core: &Core,
-    asked: &LoadsOf,
-) -> Result<Vec<u8>, AllocError>
-    requires grid { IsGridOf flights.now core.now.grid }
-    requires capped { core.now.cap ≤ most_lines }
-    ensures { IfOk result (λ text. IsLoadsText asked.now (state_now core.now) flights.now text.items) }
-{
-    let mut text = lines_of(alloc, flights, core, asked)?;
-    put_sums(&mut text, &sums_of(flights, core, asked))?;
-    Ok(text)
 }
 
 /// The lines of the legs that are kept.
