@@ -1,28 +1,11 @@
 -- Tables of what a replay leaves, and the rows of what is kept.
 use Rattle.std.proofs.Common.{Bool, true, false, ◌≡◌, ◌≤◌, ℕ, List, [], ◌∷◌, length, take, sym, subst}
-use Rattle.ssim_flights.specs.declared.flight.Flight.{Flight as Flown}
-use Rattle.seat_journal.specs.declared.entry.Entry.{Entry}
-use Rattle.seat_nesting.specs.Nesting.{Ladders}
-use Rattle.seat_rules.specs.Inventory.{Inventory}
-use Rattle.seat_desk.specs.AuditDesk.{IsReplayOf}
-use Rattle.seat_tables.specs.Rows.{IsTable, rows_from}
+use Rattle.seat_tables.specs.Rows.{rows_from}
 use Rattle.seat_tables.specs.Sheets.{ArePut, IsReady}
 use Rattle.seat_tables.specs.declared.cell.Cell.{Cell}
-use Rattle.seat_tables.specs.declared.sheet.Form.{Form}
 use Rattle.seat_tables.specs.declared.sheet.Sheet.{Sheet}
 use Rattle.seat_tables.proofs.Putting.{put_none, put_whole}
-use Rattle.table_questions.specs.Tables.{IsTableOver, kept_rows}
-
-pub table_of_replay : (names : List (List ℕ)) (rows : List Flown → Ladders → List Entry → List (List Cell)) (form : Form)
-    (flights : List Flown) (grid : Ladders) (journal text : List ℕ) (core : Inventory) → IsReplayOf grid journal core
-    → IsTable form names (rows flights core.grid core.journal) text → IsTableOver names rows form flights grid journal text
-table_of_replay names rows form flights grid journal text core is table = record {
-  entries = core.journal;
-  is_text = is.is_text;
-  legal = is.legal;
-  few = is.few;
-  table = subst (λ (g : Ladders). IsTable form names (rows flights g core.journal) text) is.grid_is table;
-}
+use Rattle.table_questions.specs.Tables.{kept_rows}
 
 pub rows_left : (names : List (List ℕ)) (rows : List (List Cell)) (keep : Bool) (sheet : Sheet) → keep ≡ false → IsReady sheet
     → ArePut names (kept_rows keep rows) sheet sheet

@@ -1,16 +1,15 @@
 //! What a table says of itself, and the question that it answers.
 //! It knows no table.
-ghost use Rattle.std.specs.Prelude.{◌≡◌, ◌≢◌, ◌≤◌, IfErr, IfOk, length};
-ghost use Rattle.seat_desk.specs.AuditDesk.{IsUnlawful, most_journal_bytes, most_lines};
+ghost use Rattle.std.specs.Prelude.{◌≤◌, IfOk};
+ghost use Rattle.seat_desk.specs.AuditDesk.{most_lines};
 ghost use Rattle.seat_desk.specs.Loading.{IsGridOf};
 ghost use Rattle.seat_tables.specs.Rows.{IsTable};
 
 use seat_core::Core;
-use seat_desk::{DeskFault, Loaded, Question, replayed_in_parts};
+use seat_desk::Standing;
 use seat_tables::Form;
 use ssim_flights::Flights;
 use std::alloc::{AllocError, Global};
-use std::thread::Threads;
 
 /// Rows that flights, opening limits and the lines of a journal give.
 pub trait Table {
@@ -40,40 +39,25 @@ pub trait Table {
             text.items) };
 }
 
-/// The table, in a form. A journal is refused as an audit refuses it.
+/// The table, in a form.
 #[derive(Clone, Copy)]
 pub struct TableOf<'a, T> {
     pub asked: &'a T,
     pub form: Form,
 }
 
-impl<'a, T: Table> Question for TableOf<'a, T> {
-    ghost use Rattle.seat_desk.specs.AuditDesk.{IsUnlawful};
-    ghost use Rattle.table_questions.specs.Tables.{IsTableOver};
+impl<'a, T: Table> Standing for TableOf<'a, T> {
+    ghost use Rattle.seat_tables.specs.Rows.{IsTable};
 
-    ghost answers = { λ asked flights rows grid journal text.
-        IsTableOver T.names (T.rows asked.asked.now) asked.form flights grid journal text };
+    ghost tells = { λ asked flights grid entries text.
+        IsTable asked.form T.names (T.rows asked.asked.now flights grid entries) text };
 
-    ghost refuses = { λ asked grid fault journal. IsUnlawful grid fault journal };
-
-    #[tactic(auto, using(seat_desk::proofs::Grounds::grid_of_rows, seat_questions::proofs::RoomTexts::grid_kept, crate::proofs::Tables::table_of_replay))]
-    fn text<R: Threads + Sync>(
+    fn standing(
         &self,
-        rt: &R,
         alloc: Global,
-        loaded: Loaded,
-        journal: Vec<u8>,
-    ) -> Result<Vec<u8>, DeskFault> {
-        let Loaded {
-            flights,
-            rows,
-            grid,
-        } = loaded;
-        drop(rows);
-        let core = replayed_in_parts(rt, alloc, grid, journal)?;
-        match self.asked.written(alloc, self.form, &flights, &core) {
-            Ok(text) => Ok(text),
-            Err(_) => Err(DeskFault::Memory),
-        }
+        flights: &Flights,
+        core: &Core,
+    ) -> Result<Vec<u8>, AllocError> {
+        self.asked.written(alloc, self.form, flights, core)
     }
 }
