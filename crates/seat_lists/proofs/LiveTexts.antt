@@ -8,20 +8,16 @@ use Rattle.airimp_lines.specs.Grammar.{IsPlainLine, reply_of}
 use Rattle.airimp_lines.specs.declared.segment.Segment.{Segment}
 use Rattle.ssim_flights.specs.declared.flight.DatedLeg.{DatedLeg}
 use Rattle.ssim_flights.specs.declared.flight.Flight.{Flight as Flown}
-use Rattle.seat_rules.specs.Inventory.{Inventory}
 use Rattle.seat_rules.proofs.Passes.Quiet.{all_map}
-use Rattle.seat_desk.specs.AuditDesk.{IsReplayOf}
 use Rattle.seat_desk.specs.FlightsDesk.{IsPut, IsText}
-use Rattle.seat_desk.specs.Loading.{IsGridOf}
 use Rattle.seat_desk.proofs.Texts.{put_more}
-use Rattle.seat_lists.proofs.Common.{Booking, Ladders, Place, replay}
+use Rattle.seat_lists.proofs.Common.{Booking, Ladders, Place}
 use Rattle.seat_lists.proofs.Listings.{all_listed}
 use Rattle.seat_lists.specs.declared.picking.Designator.{Designator}
 use Rattle.seat_lists.specs.Listing.{listed}
-use Rattle.seat_lists.specs.LiveBookings.{IsBookingLine, IsBookingsOver, IsBookingsText, names_one}
+use Rattle.seat_lists.specs.LiveBookings.{IsBookingLine, IsBookingsText}
 use Rattle.seat_lists.specs.Named.{IsNamed, IsNamedPut, IsSegmentPut, locator_text, segment_of}
-use Rattle.seat_lists.specs.Picking.{HasPlace, IsThere, picked}
-use Rattle.seat_lists.specs.declared.picking.Wanted.{Wanted}
+use Rattle.seat_lists.specs.Picking.{HasPlace, IsThere}
 
 -- ---- texts of lines
 
@@ -128,20 +124,3 @@ pub bookings_text : (flights : List Flown) (alone : Bool) (flight : Option Desig
 bookings_text flights alone flight all shown slice xs old new empty picks is same put =
     subst (λ (l : List Booking). IsBookingsText flights alone l new) (same ∙ is ∙ ap (listed flight) picks)
     (whole_text (IsBookingLine flights alone) slice old new empty put)
-
-pub bookings_over : (flights : List Flown) (grid : Ladders) (wanted : Wanted) (bytes text : List ℕ) (core : Inventory)
-    → IsReplayOf grid bytes core
-    → IsBookingsText flights (names_one wanted) (listed wanted.flight (picked flights wanted false (replay core.grid core.journal).bookings)) text
-    → IsBookingsOver flights grid wanted bytes text
-bookings_over flights grid wanted bytes text core r is = record {
-  entries = core.journal;
-  is_text = r.is_text;
-  legal = r.legal;
-  few = r.few;
-  are_lines = subst (λ (g : Ladders). IsBookingsText flights (names_one wanted) (listed wanted.flight (picked flights wanted false (replay g core.journal).bookings)) text) r.grid_is is;
-}
-
--- the grid that a replay began with
-pub grid_after : (flights : List Flown) (grid : Ladders) (bytes : List ℕ) (core : Inventory) → IsGridOf flights grid
-    → IsReplayOf grid bytes core → IsGridOf flights core.grid
-grid_after flights grid bytes core is r = subst (IsGridOf flights) (sym r.grid_is) is

@@ -1,15 +1,11 @@
 -- The lines of those who wait, and the text of all of them.
-use Rattle.std.proofs.Common.{◌≡◌, ℕ, true, false, List, [], ◌∷◌, ◌++◌, refl, ap, subst, ◌∙◌, append_assoc, decimal, codes}
+use Rattle.std.proofs.Common.{◌≡◌, ℕ, false, List, [], ◌∷◌, ◌++◌, refl, ap, subst, ◌∙◌, append_assoc, decimal, codes}
 use Rattle.ssim_flights.specs.declared.flight.Flight.{Flight as Flown}
-use Rattle.seat_rules.specs.Inventory.{Inventory}
-use Rattle.seat_desk.specs.AuditDesk.{IsReplayOf}
 use Rattle.seat_desk.specs.FlightsDesk.{IsPut}
-use Rattle.seat_lists.proofs.Common.{Booking, Ladders, State, replay}
+use Rattle.seat_lists.proofs.Common.{Booking, State}
 use Rattle.seat_lists.proofs.LiveTexts.{one_line, whole_text}
 use Rattle.seat_lists.specs.Named.{IsNamedPut}
-use Rattle.seat_lists.specs.Picking.{picked}
-use Rattle.seat_lists.specs.Waiting.{IsWaitingLine, IsWaitingOver, IsWaitingText, lacked}
-use Rattle.seat_lists.specs.declared.picking.Wanted.{Wanted}
+use Rattle.seat_lists.specs.Waiting.{IsWaitingLine, IsWaitingText, lacked}
 
 -- one line
 pub waiting_line : (flights : List Flown) (s : State) (b : Booking) (n : ℕ) (old mid t1 t2 new : List ℕ)
@@ -33,15 +29,3 @@ pub waiting_text : (flights : List Flown) (s : State) (all slice xs : List Booki
     → all ≡ xs → slice ≡ all → IsPut (λ k. IsWaitingLine flights s) 0 slice old new → IsWaitingText flights s xs new
 waiting_text flights s all slice xs old new empty picks same put =
     subst (λ (l : List Booking). IsWaitingText flights s l new) (same ∙ picks) (whole_text (IsWaitingLine flights s) slice old new empty put)
-
-pub waiting_over : (flights : List Flown) (grid : Ladders) (wanted : Wanted) (bytes text : List ℕ) (core : Inventory)
-    → IsReplayOf grid bytes core
-    → IsWaitingText flights (replay core.grid core.journal) (picked flights wanted true (replay core.grid core.journal).bookings) text
-    → IsWaitingOver flights grid wanted bytes text
-waiting_over flights grid wanted bytes text core r is = record {
-  entries = core.journal;
-  is_text = r.is_text;
-  legal = r.legal;
-  few = r.few;
-  are_lines = subst (λ (g : Ladders). IsWaitingText flights (replay g core.journal) (picked flights wanted true (replay g core.journal).bookings) text) r.grid_is is;
-}

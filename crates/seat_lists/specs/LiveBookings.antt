@@ -1,16 +1,9 @@
 -- What `bookings` writes: the live bookings that are asked for, a line each.
-use Rattle.std.specs.Prelude.{◌≡◌, ◌≤◌, ◌==◌, ℕ, Bool, false, List, [], ◌∷◌, ◌++◌, length}
+use Rattle.std.specs.Prelude.{◌≡◌, ◌==◌, ℕ, Bool, List, [], ◌∷◌, ◌++◌, length}
 use Rattle.ssim_flights.specs.declared.flight.Flight.{Flight as Flown}
-use Rattle.seat_nesting.specs.Nesting.{Ladders}
-use Rattle.seat_journal.specs.Text.{IsJournalText}
-use Rattle.seat_journal.specs.declared.entry.Entry.{Entry}
-use Rattle.seat_rules.specs.Journal.{IsLegal, replay}
 use Rattle.seat_rules.specs.declared.booking.Booking.{Booking}
-use Rattle.seat_desk.specs.AuditDesk.{most_lines}
 use Rattle.seat_desk.specs.FlightsDesk.{IsText}
-use Rattle.seat_lists.specs.Listing.{listed}
 use Rattle.seat_lists.specs.Named.{IsNamed}
-use Rattle.seat_lists.specs.Picking.{picked}
 use Rattle.seat_lists.specs.declared.picking.Wanted.{Wanted}
 
 -- the question names the one locator
@@ -26,13 +19,3 @@ pub record IsBookingLine (flights : List Flown) (alone : Bool) (b : Booking) (li
 -- a line for each booking, in order
 abbrev pub IsBookingsText : List Flown → Bool → List Booking → List ℕ → Type 0
 IsBookingsText flights alone bookings text = IsText (λ n. IsBookingLine flights alone) 0 bookings text
-
--- the bytes are the text of a legal history over these limits, and the text has the live bookings that it leaves and that are asked for
-pub record IsBookingsOver (flights : List Flown) (grid : Ladders) (wanted : Wanted) (bytes text : List ℕ) : Type 0
-  where
-    pub entries : List Entry
-    pub is_text : IsJournalText bytes entries
-    pub legal : IsLegal grid entries
-    pub few : length entries ≤ most_lines
-    pub are_lines : IsBookingsText flights (names_one wanted)
-        (listed wanted.flight (picked flights wanted false (replay grid entries).bookings)) text

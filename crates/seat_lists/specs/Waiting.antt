@@ -1,17 +1,10 @@
 -- What `waiting` writes: who waits, in the order in which a pass confirms, and the seats that each lacks.
-use Rattle.std.specs.Prelude.{◌≡◌, ◌≤◌, ◌-◌, ℕ, true, false, List, [], ◌∷◌, ◌++◌, length, decimal, codes}
+use Rattle.std.specs.Prelude.{◌≡◌, ◌-◌, ℕ, false, List, [], ◌∷◌, ◌++◌, decimal, codes}
 use Rattle.ssim_flights.specs.declared.flight.Flight.{Flight as Flown}
-use Rattle.seat_nesting.specs.Nesting.{Ladders}
-use Rattle.seat_journal.specs.Text.{IsJournalText}
-use Rattle.seat_journal.specs.declared.entry.Entry.{Entry}
-use Rattle.seat_rules.specs.Journal.{IsLegal, replay}
 use Rattle.seat_rules.specs.Sequential.{State, room_left}
 use Rattle.seat_rules.specs.declared.booking.Booking.{Booking}
-use Rattle.seat_desk.specs.AuditDesk.{most_lines}
 use Rattle.seat_desk.specs.FlightsDesk.{IsText}
 use Rattle.seat_lists.specs.Named.{IsNamed}
-use Rattle.seat_lists.specs.Picking.{picked}
-use Rattle.seat_lists.specs.declared.picking.Wanted.{Wanted}
 
 -- the seats beyond those that are left on its place in its class
 abbrev pub lacked : State → Booking → ℕ
@@ -26,12 +19,3 @@ pub record IsWaitingLine (flights : List Flown) (s : State) (b : Booking) (line 
 -- a line for each booking, in order
 abbrev pub IsWaitingText : List Flown → State → List Booking → List ℕ → Type 0
 IsWaitingText flights s bookings text = IsText (λ n. IsWaitingLine flights s) 0 bookings text
-
--- the bytes are the text of a legal history over these limits, and the text has those that it leaves waiting and that are asked for
-pub record IsWaitingOver (flights : List Flown) (grid : Ladders) (wanted : Wanted) (bytes text : List ℕ) : Type 0
-  where
-    pub entries : List Entry
-    pub is_text : IsJournalText bytes entries
-    pub legal : IsLegal grid entries
-    pub few : length entries ≤ most_lines
-    pub are_lines : IsWaitingText flights (replay grid entries) (picked flights wanted true (replay grid entries).bookings) text
