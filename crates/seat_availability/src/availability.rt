@@ -58,7 +58,7 @@ impl<'a> Question for AvailabilityOf<'a> {
 }
 
 /// What is told, if the bytes are a legal history over these limits that begins with what stands ahead.
-#[tactic(auto, using(seat_questions::proofs::RoomTexts::grid_kept, crate::proofs::Answering::behind_within, crate::proofs::Answering::after_replay, crate::proofs::Answering::unlawful, crate::proofs::Answering::parted))]
+#[tactic(auto, using(seat_desk::proofs::After::grid_kept, crate::proofs::Answering::behind_within, crate::proofs::Answering::after_replay, crate::proofs::Answering::unlawful, crate::proofs::Answering::parted))]
 fn told_after<R: Threads + Sync>(
     rt: &R,
     alloc: Global,
@@ -143,7 +143,7 @@ fn told(
 }
 
 /// Those that changed behind so many lines.
-#[tactic(auto, using(seat_questions::proofs::RoomTexts::grid_kept, crate::proofs::Answering::changed_behind))]
+#[tactic(auto, using(seat_desk::proofs::After::grid_kept, crate::proofs::Answering::changed_behind))]
 fn told_behind(
     alloc: Global,
     flights: &Flights,

@@ -8,16 +8,14 @@ use Rattle.std.proofs.lemmas.Option.{slice_get-map}
 use Rattle.seat_limits.specs.Authorised.{authorised_grid, authorised_legs}
 use Rattle.seat_nesting.specs.Nesting.{ByClass, held_from, legs_of}
 use Rattle.seat_nesting.specs.declared.ladder.Step.{Step}
-use Rattle.seat_journal.proofs.TextLaws.{one_text}
 use Rattle.seat_rules.specs.Bookings.{same_place}
-use Rattle.seat_rules.specs.Inventory.{Inventory, state_now}
 use Rattle.seat_rules.proofs.History.Faults.{place_same}
-use Rattle.seat_desk.specs.AuditDesk.{IsReplayOf}
 use Rattle.seat_desk.specs.FlightsDesk.{head_text}
 use Rattle.seat_desk.specs.Loading.{IsGridOf}
+use Rattle.seat_desk.proofs.After.{holds_of}
 use Rattle.seat_desk.proofs.Texts.{assoc_four}
 use Rattle.seat_questions.proofs.Covers.{assoc_six}
-use Rattle.seat_questions.specs.Rooms.{AreRoomsAfter, FoundPlacesAreWritten, IsAdded, IsAnsweredHere, IsPlaceText, IsPlaceTextBy, IsRoomsText, IsRunText, OpeningRoomsAreOfNoLines, WrittenPlacesAreFound, bar_line, bar_lines, bars_text, block_bar, is_found, is_place, is_shown, keeps, rooms_part, times, wanted_of}
+use Rattle.seat_questions.specs.Rooms.{FoundPlacesAreWritten, IsAdded, IsAnsweredHere, IsPlaceText, IsPlaceTextBy, IsRoomsText, IsRunText, OpeningRoomsAreOfNoLines, WrittenPlacesAreFound, bar_line, bar_lines, bars_text, block_bar, is_found, is_place, is_shown, keeps, rooms_part, times, wanted_of}
 use Rattle.seat_questions.specs.declared.rooms.RoomsOf.{RoomsOf}
 use Rattle.seat_questions.specs.declared.rooms.Bars.{Bars}
 use Rattle.ssim_flights.specs.Places.{place_wanted}
@@ -25,26 +23,10 @@ use Rattle.ssim_flights.proofs.Walks.{drop_step}
 
 -- ---- the state
 
-pub grid_kept : (flights : List Flight) (grid other : Ladders) → IsGridOf flights grid → other ≡ grid
-    → IsGridOf flights other
-grid_kept flights grid other is same = subst (IsGridOf flights) (sym same) is
-
--- the rooms of the inventory that the journal comes to are those that the journal leaves
-pub rooms_of_replay : (asked : RoomsOf) (flights : List Flight) (grid : Ladders) (bytes text : List ℕ)
-    (core : Inventory) → IsReplayOf grid bytes core
-    → IsRoomsText asked (state_now core) flights text → AreRoomsAfter asked flights grid bytes text
-rooms_of_replay asked flights grid bytes text core is listed = record {
-  entries = core.journal;
-  is_text = is.is_text;
-  legal = is.legal;
-  few = is.few;
-  listed = subst (λ (g : Ladders). IsRoomsText asked (replay g core.journal) flights text) is.grid_is listed;
-}
-
 -- a text without lines is that of no others
 pub opening_rooms_are_of_no_lines : OpeningRoomsAreOfNoLines
-opening_rooms_are_of_no_lines asked flights grid journal text none rooms =
-    subst (λ (l : List Entry). IsRoomsText asked (replay grid l) flights text) (one_text journal rooms.entries [] rooms.is_text none) rooms.listed
+opening_rooms_are_of_no_lines asked flights grid journal text =
+    holds_of (λ (l : List Entry). IsRoomsText asked (replay grid l) flights text) grid journal []
 
 -- a flight has as many ladders as legs
 pub legs_alike : (flights : List Flight) (grid : Ladders) (i : ℕ) (flight : Flight) → IsGridOf flights grid

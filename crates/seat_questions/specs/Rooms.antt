@@ -1,5 +1,5 @@
 -- What `rooms` writes: one line for each place of a flight, with the seats that are left on it in each class.
-use Rattle.std.specs.Prelude.{◌≡◌, ◌≢◌, ◌≤◌, ℕ, zero, suc, ◌-◌, ◌*◌, ◌/◌, ◌%◌, ◌==◌, ◌&&◌, nat_eq, nat_le, Bool, true, false, not, if◌then◌else◌, List, [], ◌∷◌, ◌++◌, length, drop, decimal, codes, Option, Some, None}
+use Rattle.std.specs.Prelude.{◌≡◌, ◌≢◌, ℕ, zero, suc, ◌-◌, ◌*◌, ◌/◌, ◌%◌, ◌==◌, ◌&&◌, nat_eq, nat_le, Bool, true, false, not, if◌then◌else◌, List, [], ◌∷◌, ◌++◌, drop, decimal, codes, Option, Some, None}
 use Rattle.std.specs.List.{flat_map}
 use Rattle.std.specs.Cmp.Lexicographic.{pointwise}
 use Rattle.airline_base.specs.declared.place.Place.{Place}
@@ -10,11 +10,10 @@ use Rattle.ssim_flights.specs.Places.{place_wanted}
 use Rattle.seat_nesting.specs.Nesting.{ByClass, Ladders, Steps, each_leg, held_from, ladder_at}
 use Rattle.seat_nesting.specs.declared.ladder.Step.{Step}
 use Rattle.seat_journal.specs.Text.{IsJournalText}
-use Rattle.seat_journal.specs.declared.entry.Entry.{Entry}
 use Rattle.seat_rules.specs.Bookings.{held, same_place}
-use Rattle.seat_rules.specs.Journal.{IsLegal, replay}
+use Rattle.seat_rules.specs.Journal.{replay}
 use Rattle.seat_rules.specs.Sequential.{State, room_left}
-use Rattle.seat_desk.specs.AuditDesk.{most_lines}
+use Rattle.seat_desk.specs.After.{HoldsAfter}
 use Rattle.seat_desk.specs.FlightsDesk.{IsLegText, IsText, head_text}
 use Rattle.seat_questions.specs.declared.rooms.RoomsOf.{RoomsOf}
 use Rattle.seat_questions.specs.declared.rooms.Bars.{Bars}
@@ -201,20 +200,11 @@ pub record IsAdded (IsPart : List ℕ → Type 0) (old new : List ℕ) : Type 0 
 
 -- ---- the answer
 
--- the bytes are the text of a legal history over these limits, and the text lists the rooms that it leaves
-pub record AreRoomsAfter (asked : RoomsOf) (flights : List Flown) (grid : Ladders) (journal text : List ℕ) : Type 0
-  where
-    pub entries : List Entry
-    pub is_text : IsJournalText journal entries
-    pub legal : IsLegal grid entries
-    pub few : length entries ≤ most_lines
-    pub listed : IsRoomsText asked (replay grid entries) flights text
-
 -- behind a journal without lines they are those of the limits themselves
 abbrev pub OpeningRoomsAreOfNoLines : Type 0
 OpeningRoomsAreOfNoLines = (asked : RoomsOf) (flights : List Flown) (grid : Ladders) (journal text : List ℕ)
-    → IsJournalText journal [] →
-    AreRoomsAfter asked flights grid journal text → IsRoomsText asked (replay grid []) flights text
+    → IsJournalText journal [] → HoldsAfter (λ entries. IsRoomsText asked (replay grid entries) flights text) grid journal →
+    IsRoomsText asked (replay grid []) flights text
 
 -- a request that names what the place has is answered from this very place, and the text is its line, with its rooms
 pub record IsAnsweredHere (flights : List Flown) (bars : Option Bars) (state : State) (flight : Flown) (place : Place)

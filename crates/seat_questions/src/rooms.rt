@@ -1,21 +1,17 @@
 //! `rooms`: the seats that are left on each place of a flight after a journal.
-ghost use Rattle.std.specs.Prelude.{◌≡◌, ◌≢◌, ◌++◌, ◌-◌, ◌<◌, ◌≤◌, [], IfErr, IfOk, OnOk, drop, length};
+ghost use Rattle.std.specs.Prelude.{◌≡◌, ◌++◌, ◌-◌, ◌<◌, ◌≤◌, [], IfOk, OnOk, drop, length};
 ghost use Rattle.seat_nesting.specs.Nesting.{Fits, legs_of};
 ghost use Rattle.seat_rules.specs.Inventory.{state_now};
-ghost use Rattle.seat_desk.specs.AuditDesk.{IsUnlawful, most_journal_bytes};
 ghost use Rattle.seat_desk.specs.FlightsDesk.{IsPut};
 ghost use Rattle.seat_desk.specs.Loading.{IsGridOf};
-ghost use Rattle.seat_questions.specs.Rooms.{AreRoomsAfter, IsAdded, IsFirstPart, IsLastPart, IsPlaceText, IsRoomsText, IsRunText, bar, bar_line, bar_share, bars_text, block_bar, closed_mark, filled, has_half, is_found, is_place, is_shown, is_unclosed, keeps, keeps_day, keeps_pair, leg_bars, none_closed, place_bars, plain_bar, room_text, rooms_part, rooms_text, run_of, times, wanted_of};
+ghost use Rattle.seat_questions.specs.Rooms.{IsAdded, IsFirstPart, IsLastPart, IsPlaceText, IsRoomsText, IsRunText, bar, bar_line, bar_share, bars_text, block_bar, closed_mark, filled, has_half, is_found, is_place, is_shown, is_unclosed, keeps, keeps_day, keeps_pair, leg_bars, none_closed, place_bars, plain_bar, room_text, rooms_part, rooms_text, run_of, times, wanted_of};
 
 use airline_base::{Class, Day, Place, Station};
 use seat_core::Core;
-use seat_desk::{
-    DeskFault, Loaded, Question, put, put_head, put_number, put_way, replayed_in_parts,
-};
-use seat_nesting::{Grid, Step};
+use seat_desk::{Standing, put, put_head, put_number, put_way};
+use seat_nesting::Step;
 use ssim_flights::{DatedLeg, Flight, Flights, Served, Wanted};
 use std::alloc::{AllocError, Global};
-use std::thread::Threads;
 
 /// Two stations: a board point and an off point.
 #[derive(Clone, Copy)]
@@ -45,86 +41,27 @@ pub struct RoomsOf {
 }
 
 /// A line for each place that a request finds, by flight, first leg and last leg, with the seats that are left on it after the
-/// journal in each class of its first leg. A journal is refused as an audit refuses it.
-impl Question for RoomsOf {
-    ghost use Rattle.seat_desk.specs.AuditDesk.{IsUnlawful};
-    ghost use Rattle.seat_questions.specs.Rooms.{AreRoomsAfter};
+/// journal in each class of its first leg.
+impl Standing for RoomsOf {
+    ghost use Rattle.seat_rules.specs.Journal.{replay};
+    ghost use Rattle.seat_questions.specs.Rooms.{IsRoomsText};
 
-    ghost answers = { λ asked flights rows grid journal text. AreRoomsAfter asked flights grid journal text };
+    ghost tells = { λ asked flights grid entries text. IsRoomsText asked (replay grid entries) flights text };
 
-    ghost refuses = { λ asked grid fault journal. IsUnlawful grid fault journal };
-
-    #[tactic(auto, using(seat_desk::proofs::Grounds::grid_of_rows))]
-    fn text<R: Threads + Sync>(
+    fn standing(
         &self,
-        rt: &R,
         alloc: Global,
-        loaded: Loaded,
-        journal: Vec<u8>,
-    ) -> Result<Vec<u8>, DeskFault> {
-        let Loaded {
-            flights,
-            rows,
-            grid,
-        } = loaded;
-        drop(rows);
-        rooms_after(rt, alloc, &flights, grid, journal, self)
+        flights: &Flights,
+        core: &Core,
+    ) -> Result<Vec<u8>, AllocError> {
+        match Served::new(alloc, flights) {
+            Ok(served) => text_over(alloc, flights, &served, core, self),
+            Err(_) => Err(AllocError),
+        }
     }
 }
 
-/// The rooms that a journal's text leaves, if it is that of a legal history over these limits.
-#[tactic(auto, using(crate::proofs::RoomTexts::grid_kept, crate::proofs::RoomTexts::rooms_of_replay))]
-fn rooms_after<R: Threads + Sync>(
-    rt: &R,
-    alloc: Global,
-    flights: &Flights,
-    grid: Grid,
-    bytes: Vec<u8>,
-    asked: &RoomsOf,
-) -> Result<Vec<u8>, DeskFault>
-    requires size { length bytes.items ≤ most_journal_bytes }
-    requires grid { IsGridOf flights.now grid }
-    ensures ok { IfOk result (λ text. AreRoomsAfter asked.now flights.now grid bytes.items text.items) }
-    ensures fault { IfErr result (λ f. f ≢ DeskFault.Memory → IsUnlawful grid f bytes.items) }
-    ensures kind { IfErr result (λ f. (f ≢ DeskFault.Device) × (f ≢ DeskFault.TooLarge)) }
-{
-    let core = replayed_in_parts(rt, alloc, grid, bytes)?;
-    listed(alloc, flights, &core, asked)
-}
-
-/// The rooms after the lines so far.
-fn listed(
-    alloc: Global,
-    flights: &Flights,
-    core: &Core,
-    asked: &RoomsOf,
-) -> Result<Vec<u8>, DeskFault>
-    requires grid { IsGridOf flights.now core.now.grid }
-    ensures ok { IfOk result (λ text. IsRoomsText asked.now (state_now core.now) flights.now text.items) }
-    ensures memory { IfErr result (λ f. f ≡ DeskFault.Memory) }
-{
-    match text_of(alloc, flights, core, asked) {
-        Ok(text) => Ok(text),
-        Err(_) => Err(DeskFault::Memory),
-    }
-}
-
-fn text_of(
-    alloc: Global,
-    flights: &Flights,
-    core: &Core,
-    asked: &RoomsOf,
-) -> Result<Vec<u8>, AllocError>
-    requires grid { IsGridOf flights.now core.now.grid }
-    ensures { IfOk result (λ text. IsRoomsText asked.now (state_now core.now) flights.now text.items) }
-{
-    match Served::new(alloc, flights) {
-        Ok(served) => text_over(alloc, flights, &served, core, asked),
-        Err(_) => Err(AllocError),
-    }
-}
-
-/// The same by the index of the flights' places.
+/// The text by the index of the flights' places.
 #[tactic(auto, using(crate::proofs::RoomTexts::legs_alike))]
 fn text_over(
     alloc: Global,
