@@ -1,36 +1,20 @@
 -- Sections behind sections, and the page of what a replay leaves.
-use Rattle.std.proofs.Common.{Bool, true, false, ◌≡◌, ℕ, suc, ◌+◌, ◌-◌, ◌<◌, ◌≤◌, List, [], ◌∷◌, ◌++◌, length, Option, Some, None, refl, sym, ap, subst, ◌∙◌, arith, append_assoc, if◌then◌else◌}
+use Rattle.std.proofs.Common.{Bool, true, false, ◌≡◌, ℕ, ◌+◌, ◌-◌, ◌<◌, ◌≤◌, List, [], ◌++◌, length, Option, Some, None, sym, ap, subst, ◌∙◌, arith, append_assoc, if◌then◌else◌}
 use Rattle.std.specs.Prelude.{nat_le}
 use Rattle.std.specs.Char.{is_ascii_uppercase}
 use Rattle.std.proofs.lemmas.Bool.Decides.{nat_tests}
 use Rattle.std.proofs.lemmas.List.{append-nil, length-append}
 use Rattle.airline_base.specs.Days.{IsDay}
 use Rattle.ssim_flights.specs.declared.flight.Flight.{Flight as Flown}
-use Rattle.seat_nesting.specs.Nesting.{Ladders}
-use Rattle.seat_rules.specs.Inventory.{Inventory, state_now}
-use Rattle.seat_rules.specs.Journal.{replay}
 use Rattle.seat_rules.specs.Sequential.{State}
-use Rattle.seat_desk.specs.AuditDesk.{IsReplayOf}
 use Rattle.seat_loads.specs.declared.loads.LoadsOf.{LoadsOf}
-use Rattle.table_questions.specs.SumRows.{day_count, days_from, latest_of}
 use Rattle.load_pages.specs.Pages.{closing_text, most_page_bytes, opening_text}
 use Rattle.load_pages.specs.Sections.{AreHeads, section_text}
 use Rattle.load_pages.specs.declared.load.LegLoad.{LegLoad}
 use Rattle.page_questions.specs.Each.{of_each}
-use Rattle.page_questions.specs.Page.{IsPage, IsPageOver, class_section, columns_of, first_of, fitting, page_text}
+use Rattle.page_questions.specs.Page.{IsPage, class_section, columns_of, first_of, fitting, page_text}
 use Rattle.page_questions.specs.Shown.{shown_legs}
 use Rattle.page_questions.proofs.Eaching.{each_next, each_none}
-
--- the page of the inventory that the journal comes to is that of the loads that the journal leaves
-pub page_of_replay : (asked : LoadsOf) (flights : List Flown) (grid : Ladders) (bytes text : List ℕ) (core : Inventory)
-    → IsReplayOf grid bytes core → IsPage asked (state_now core) flights text → IsPageOver asked flights grid bytes text
-page_of_replay asked flights grid bytes text core is page = record {
-  entries = core.journal;
-  is_text = is.is_text;
-  legal = is.legal;
-  few = is.few;
-  page = subst (λ (g : Ladders). IsPage asked (replay g core.journal) flights text) is.grid_is page;
-}
 
 pub page_is : (asked : LoadsOf) (s : State) (flights : List Flown) (first count : ℕ) (heads text : List ℕ)
     → first ≡ first_of asked.day flights → count ≡ columns_of asked.day flights → AreHeads count first heads

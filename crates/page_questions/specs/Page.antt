@@ -1,12 +1,7 @@
 -- What `loads --html` writes: a page of the legs that are kept.
-use Rattle.std.specs.Prelude.{◌≡◌, ◌≤◌, ℕ, nat_le, if◌then◌else◌, List, [], ◌++◌, length, Option, Some, None}
+use Rattle.std.specs.Prelude.{◌≡◌, ℕ, nat_le, if◌then◌else◌, List, [], ◌++◌, length, Option, Some, None}
 use Rattle.ssim_flights.specs.declared.flight.Flight.{Flight as Flown}
-use Rattle.seat_journal.specs.Text.{IsJournalText}
-use Rattle.seat_journal.specs.declared.entry.Entry.{Entry}
-use Rattle.seat_nesting.specs.Nesting.{Ladders}
-use Rattle.seat_rules.specs.Journal.{IsLegal, replay}
 use Rattle.seat_rules.specs.Sequential.{State}
-use Rattle.seat_desk.specs.AuditDesk.{most_lines}
 use Rattle.seat_loads.specs.declared.loads.LoadsOf.{LoadsOf}
 use Rattle.table_questions.specs.SumRows.{day_count, days_from}
 use Rattle.load_pages.specs.Pages.{closing_text, most_page_bytes, opening_text}
@@ -40,11 +35,3 @@ pub record IsPage (asked : LoadsOf) (s : State) (flights : List Flown) (text : L
   pub heads : List ℕ
   pub are_heads : AreHeads (columns_of asked.day flights) (first_of asked.day flights) heads
   pub written : text ≡ fitting (page_text asked s flights (first_of asked.day flights) heads)
-
--- the bytes are the text of a legal history over these limits, and the text is the page of the loads that it leaves
-pub record IsPageOver (asked : LoadsOf) (flights : List Flown) (grid : Ladders) (journal text : List ℕ) : Type 0 where
-  pub entries : List Entry
-  pub is_text : IsJournalText journal entries
-  pub legal : IsLegal grid entries
-  pub few : length entries ≤ most_lines
-  pub page : IsPage asked (replay grid entries) flights text

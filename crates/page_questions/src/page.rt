@@ -1,72 +1,43 @@
 //! `loads --html`: a page of the legs that are kept, a section for each class.
 //! It knows which days stand across, and how long a page may be.
-ghost use Rattle.std.specs.Prelude.{◌≡◌, ◌≢◌, ◌≤◌, ◌+◌, ◌++◌, IfErr, IfOk, OnOk, length};
+ghost use Rattle.std.specs.Prelude.{◌≡◌, ◌≤◌, ◌+◌, ◌++◌, IfOk, OnOk};
 ghost use Rattle.seat_rules.specs.Inventory.{state_now};
-ghost use Rattle.seat_desk.specs.AuditDesk.{IsUnlawful, most_journal_bytes, most_lines};
-ghost use Rattle.seat_desk.specs.Loading.{IsGridOf};
-ghost use Rattle.page_questions.specs.Page.{IsPage, IsPageOver, class_section, columns_of, first_of, fitting, page_text};
+ghost use Rattle.page_questions.specs.Page.{class_section, columns_of, first_of, fitting, page_text};
 
 use crate::shown::shown_legs;
 use airline_base::{Class, Day};
 use load_pages::{MOST_PAGE_BYTES, day_heads, put_closing, put_opening, put_section};
 use seat_core::Core;
-use seat_desk::{DeskFault, Loaded, Question, replayed_in_parts};
+use seat_desk::Standing;
 use seat_loads::LoadsOf;
 use ssim_flights::Flights;
 use std::alloc::{AllocError, Global};
-use std::thread::Threads;
 use table_questions::{days_from, latest_of};
 
-/// How full the legs are that are asked for, as one page; nothing in place of a page of more than 30,000,000 bytes. Bars are passed over. A
-/// journal is refused as an audit refuses it.
+/// How full the legs are that are asked for, as one page; nothing in place of a page of more than 30,000,000 bytes. Bars are passed over.
 #[derive(Clone, Copy)]
 pub struct LoadPage {
     pub loads: LoadsOf,
 }
 
-impl Question for LoadPage {
-    ghost use Rattle.seat_desk.specs.AuditDesk.{IsUnlawful};
-    ghost use Rattle.page_questions.specs.Page.{IsPageOver};
+impl Standing for LoadPage {
+    ghost use Rattle.seat_rules.specs.Journal.{replay};
+    ghost use Rattle.page_questions.specs.Page.{IsPage};
 
-    ghost answers = { λ asked flights rows grid journal text. IsPageOver asked.loads flights grid journal text };
+    ghost tells = { λ asked flights grid entries text. IsPage asked.loads (replay grid entries) flights text };
 
-    ghost refuses = { λ asked grid fault journal. IsUnlawful grid fault journal };
-
-    #[tactic(auto, using(crate::proofs::Paging::page_of_replay))]
-    fn text<R: Threads + Sync>(
+    #[tactic(auto, using(crate::proofs::Paging::page_is, crate::proofs::Paging::days_within))]
+    fn standing(
         &self,
-        rt: &R,
         alloc: Global,
-        loaded: Loaded,
-        journal: Vec<u8>,
-    ) -> Result<Vec<u8>, DeskFault> {
-        let Loaded {
-            flights,
-            rows,
-            grid,
-        } = loaded;
-        drop(rows);
-        let core = replayed_in_parts(rt, alloc, grid, journal)?;
-        match page(alloc, &flights, &core, &self.loads) {
-            Ok(text) => Ok(text),
-            Err(_) => Err(DeskFault::Memory),
-        }
+        flights: &Flights,
+        core: &Core,
+    ) -> Result<Vec<u8>, AllocError> {
+        let asked = &self.loads;
+        let first = first_of(asked.day, flights);
+        let heads = day_heads(alloc, first, columns_of(asked.day, flights))?;
+        page_under(alloc, flights, core, asked, first, &heads)
     }
-}
-
-/// The page of the loads after the lines so far.
-#[tactic(auto, using(crate::proofs::Paging::page_is, crate::proofs::Paging::days_within))]
-fn page(
-    alloc: Global,
-    flights: &Flights,
-    core: &Core,
-    asked: &LoadsOf,
-) -> Result<Vec<u8>, AllocError>
-    ensures { IfOk result (λ text. IsPage asked.now (state_now core.now) flights.now text.items) }
-{
-    let first = first_of(asked.day, flights);
-    let heads = day_heads(alloc, first, columns_of(asked.day, flights))?;
-    page_under(alloc, flights, core, asked, first, &heads)
 }
 
 /// The first of the days across.
