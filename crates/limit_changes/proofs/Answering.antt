@@ -2,12 +2,9 @@
 use Rattle.std.proofs.Common.{◌≡◌, ℕ, true, false, List, [], ◌++◌, ap, subst, ◌∙◌}
 use Rattle.ssim_flights.specs.declared.flight.Flight.{Flight as Flown}
 use Rattle.seat_nesting.specs.Nesting.{Ladders}
-use Rattle.seat_rules.specs.Inventory.{Inventory, state_now}
-use Rattle.seat_rules.specs.Journal.{replay}
 use Rattle.seat_rules.specs.Sequential.{State}
-use Rattle.seat_desk.specs.AuditDesk.{IsReplayOf}
 use Rattle.seat_desk.specs.FlightsDesk.{IsPut, IsText}
-use Rattle.limit_changes.specs.Answers.{AreChangesAfter, AreShortLines, IsChangesText, IsShortsText}
+use Rattle.limit_changes.specs.Answers.{AreShortLines, IsChangesText, IsShortsText}
 use Rattle.limit_changes.specs.Legs.{legs_by}
 use Rattle.limit_changes.specs.Lines.{IsRowLine, IsShortLine, IsUnnamedLine}
 use Rattle.limit_changes.specs.Rows.{rows}
@@ -17,17 +14,9 @@ use Rattle.limit_changes.specs.declared.legs.NamedLeg.{NamedLeg}
 use Rattle.limit_changes.specs.declared.rows.Row.{Row}
 use Rattle.limit_changes.specs.declared.shorts.Short.{Short}
 
-pub after_replay : (asked : LegsAsked) (flights : List Flown) (grid rows wanted : Ladders) (journal text : List ℕ) (core : Inventory)
-    → IsReplayOf grid journal core → wanted ≡ rows → IsChangesText asked flights wanted (state_now core) text
-    → AreChangesAfter asked flights grid rows journal text
-after_replay asked flights grid rows wanted journal text core is same are = record {
-  entries = core.journal;
-  is_text = is.is_text;
-  legal = is.legal;
-  few = is.few;
-  are_changes = subst (λ (w : Ladders). IsChangesText asked flights w (replay grid core.journal) text) same
-      (subst (λ (g : Ladders). IsChangesText asked flights wanted (replay g core.journal) text) is.grid_is are);
-}
+pub over_wanted : (asked : LegsAsked) (flights : List Flown) (rows wanted : Ladders) (s : State) (text : List ℕ) → wanted ≡ rows
+    → IsChangesText asked flights wanted s text → IsChangesText asked flights rows s text
+over_wanted asked flights rows wanted s text same are = subst (λ (w : Ladders). IsChangesText asked flights w s text) same are
 
 pub changes_text : (asked : LegsAsked) (flights found : List Flown) (wanted : Ladders) (s : State) (legs slice : List NamedLeg) (all shown : List Row)
     (text : List ℕ) → found ≡ flights → legs ≡ legs_by true found asked flights → slice ≡ legs → all ≡ rows wanted s slice → shown ≡ all

@@ -1,12 +1,8 @@
 -- The answer to a question for changes.
-use Rattle.std.specs.Prelude.{◌≡◌, ◌≤◌, ◌++◌, ℕ, List, length}
+use Rattle.std.specs.Prelude.{◌≡◌, ◌++◌, ℕ, List}
 use Rattle.ssim_flights.specs.declared.flight.Flight.{Flight as Flown}
-use Rattle.seat_journal.specs.Text.{IsJournalText}
-use Rattle.seat_journal.specs.declared.entry.Entry.{Entry}
 use Rattle.seat_nesting.specs.Nesting.{Ladders}
-use Rattle.seat_rules.specs.Journal.{IsLegal, replay}
 use Rattle.seat_rules.specs.Sequential.{State}
-use Rattle.seat_desk.specs.AuditDesk.{most_lines}
 use Rattle.seat_desk.specs.FlightsDesk.{IsText}
 use Rattle.limit_changes.specs.Legs.{kept_legs, unnamed_legs}
 use Rattle.limit_changes.specs.Lines.{IsRowLine, IsShortLine, IsUnnamedLine}
@@ -31,11 +27,3 @@ pub record AreShortLines (short unnamed : List Short) (text : List ℕ) : Type 0
 abbrev pub IsShortsText : LegsAsked → List Flown → Ladders → State → List ℕ → Type 0
 IsShortsText asked flights wanted s text =
     AreShortLines (shorts wanted s (kept_legs asked flights)) (unnamed wanted s (unnamed_legs asked flights)) text
-
--- the bytes are the text of a legal history over these limits, and the text has the changes that bring what it leaves to the limits that are wanted
-pub record AreChangesAfter (asked : LegsAsked) (flights : List Flown) (grid wanted : Ladders) (journal text : List ℕ) : Type 0 where
-  pub entries : List Entry
-  pub is_text : IsJournalText journal entries
-  pub legal : IsLegal grid entries
-  pub few : length entries ≤ most_lines
-  pub are_changes : IsChangesText asked flights wanted (replay grid entries) text

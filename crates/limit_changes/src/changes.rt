@@ -1,11 +1,10 @@
 //! `changes`: what brings the limits after a journal to those that are wanted.
 //! It knows what is asked and answered, and neither how a limit comes to another nor how that reads.
-ghost use Rattle.std.specs.Prelude.{◌≡◌, ◌≢◌, ◌≤◌, IfErr, IfOk, length};
+ghost use Rattle.std.specs.Prelude.{◌≡◌, IfOk};
 ghost use Rattle.seat_limits.specs.Authorised.{authorised_grid};
 ghost use Rattle.seat_rules.specs.Inventory.{state_now};
-ghost use Rattle.seat_desk.specs.AuditDesk.{IsUnlawful, most_journal_bytes};
 ghost use Rattle.seat_desk.specs.FlightsDesk.{IsText};
-ghost use Rattle.limit_changes.specs.Answers.{AreChangesAfter, AreShortLines, IsChangesText, IsShortsText};
+ghost use Rattle.limit_changes.specs.Answers.{AreShortLines, IsChangesText, IsShortsText};
 ghost use Rattle.limit_changes.specs.Lines.{IsRowLine};
 
 use crate::legs::{LegsAsked, legs_by};
@@ -13,13 +12,12 @@ use crate::lines::{put_rows, put_shorts, put_unnamed};
 use crate::rows::{Row, changes_of};
 use crate::shorts::{Short, shorts_of, unnamed_of};
 use seat_core::Core;
-use seat_desk::{DeskFault, Loaded, Question, replayed_in_parts};
+use seat_desk::Standing;
 use seat_limits::{LimitRow, build_grid};
 use seat_nesting::Grid;
 use ssim_flights::{Flights, Served};
 use std::alloc::{AllocError, Global};
 use std::cell::Cell;
-use std::thread::Threads;
 
 /// What is asked of the limits after a journal.
 #[derive(Clone, Copy)]
@@ -33,44 +31,28 @@ pub struct ChangesOf<'a> {
 }
 
 /// A line for each change, in an order in which each is accepted. A leg that is given no wanted limits stays as it is, and so does a class that the
-/// wanted limits of its leg do not name, and a leg whose own flight, day and pair find another leg. A journal is refused as an audit refuses it.
-impl<'a> Question for ChangesOf<'a> {
+/// wanted limits of its leg do not name, and a leg whose own flight, day and pair find another leg.
+impl<'a> Standing for ChangesOf<'a> {
     ghost use Rattle.seat_limits.specs.Authorised.{authorised_grid};
-    ghost use Rattle.seat_desk.specs.AuditDesk.{IsUnlawful};
-    ghost use Rattle.limit_changes.specs.Answers.{AreChangesAfter};
+    ghost use Rattle.seat_rules.specs.Journal.{replay};
+    ghost use Rattle.limit_changes.specs.Answers.{IsChangesText};
 
-    ghost answers = { λ asked flights rows grid journal text.
-        AreChangesAfter asked.legs flights grid (authorised_grid asked.wanted.now flights) journal text };
+    ghost tells = { λ asked flights grid entries text.
+        IsChangesText asked.legs flights (authorised_grid asked.wanted.now flights) (replay grid entries) text };
 
-    ghost refuses = { λ asked grid fault journal. IsUnlawful grid fault journal };
-
-    fn text<R: Threads + Sync>(
+    fn standing(
         &self,
-        rt: &R,
         alloc: Global,
-        loaded: Loaded,
-        journal: Vec<u8>,
-    ) -> Result<Vec<u8>, DeskFault> {
-        let Loaded {
-            flights,
-            rows,
-            grid,
-        } = loaded;
-        drop(rows);
-        let answer = match changes_over(
-            rt,
-            alloc,
-            &flights,
-            grid,
-            journal,
-            self.wanted,
-            &self.legs,
-        ) {
-            Ok(answer) => answer,
-            Err(fault) => return Err(fault),
-        };
-        self.shorts.set(Some(answer.shorts));
-        Ok(answer.text)
+        flights: &Flights,
+        core: &Core,
+    ) -> Result<Vec<u8>, AllocError> {
+        match answer_of(alloc, flights, core, self.wanted, &self.legs) {
+            Ok(answer) => {
+                self.shorts.set(Some(answer.shorts));
+                Ok(answer.text)
+            }
+            Err(fault) => Err(fault),
+        }
     }
 }
 
@@ -81,40 +63,29 @@ struct Answer {
     shorts: Vec<u8>,
 }
 
-/// The answer, if the bytes are a legal history over these limits.
-#[tactic(auto, using(crate::proofs::Answering::after_replay))]
-fn changes_over<R: Threads + Sync>(
-    rt: &R,
+/// The answer over an inventory.
+#[tactic(auto, using(crate::proofs::Answering::over_wanted))]
+fn answer_of(
     alloc: Global,
     flights: &Flights,
-    grid: Grid,
-    bytes: Vec<u8>,
+    core: &Core,
     wanted: &[LimitRow],
-    legs: &LegsAsked,
-) -> Result<Answer, DeskFault>
-    requires size { length bytes.items ≤ most_journal_bytes }
-    ensures ok { IfOk result (λ a. AreChangesAfter legs.now flights.now grid (authorised_grid wanted.now flights.now)
-        bytes.items a.text.items) }
-    ensures fault { IfErr result (λ f. f ≢ DeskFault.Memory → IsUnlawful grid f bytes.items) }
-    ensures kind { IfErr result (λ f. (f ≢ DeskFault.Device) × (f ≢ DeskFault.TooLarge)) }
+    asked: &LegsAsked,
+) -> Result<Answer, AllocError>
+    ensures { IfOk result (λ a. IsChangesText asked.now flights.now (authorised_grid wanted.now flights.now) (state_now core.now) a.text.items) }
 {
-    let wanted = match build_grid(alloc, flights, wanted) {
-        Ok(wanted) => wanted,
-        Err(_) => return Err(DeskFault::Memory),
+    let Ok(wanted) = build_grid(alloc, flights, wanted) else {
+        return Err(AllocError);
     };
-    let core = replayed_in_parts(rt, alloc, grid, bytes)?;
     let Ok(served) = Served::new(alloc, flights) else {
-        return Err(DeskFault::Memory);
+        return Err(AllocError);
     };
-    match answer_of(alloc, flights, &served, &core, &wanted, legs) {
-        Ok(answer) => Ok(answer),
-        Err(_) => Err(DeskFault::Memory),
-    }
+    answer_over(alloc, flights, &served, core, &wanted, asked)
 }
 
-/// The answer over an inventory.
+/// The answer over the ladders that are wanted.
 #[tactic(auto, using(crate::proofs::Answering::changes_text, crate::proofs::Answering::shorts_text))]
-fn answer_of(
+fn answer_over(
     alloc: Global,
     flights: &Flights,
     served: &Served<'_>,
