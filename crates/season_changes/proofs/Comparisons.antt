@@ -2,29 +2,14 @@
 use Rattle.std.proofs.Common.{◌≡◌, ℕ, Bool, List, [], ◌++◌, ap, subst, ◌∙◌}
 use Rattle.ssim_flights.specs.declared.flight.Flight.{Flight as Flown}
 use Rattle.seat_nesting.specs.Nesting.{Ladders}
-use Rattle.seat_rules.specs.Inventory.{Inventory, state_now}
-use Rattle.seat_rules.specs.Journal.{replay}
 use Rattle.seat_rules.specs.declared.booking.Booking.{Booking}
-use Rattle.seat_desk.specs.AuditDesk.{IsReplayOf}
 use Rattle.seat_desk.specs.FlightsDesk.{IsPut}
 use Rattle.season_changes.specs.Changes.{changes_of}
-use Rattle.season_changes.specs.Comparing.{AreChangesText, IsComparisonOver, IsComparisonText}
+use Rattle.season_changes.specs.Comparing.{AreChangesText, IsComparisonText}
 use Rattle.season_changes.specs.Lines.{IsChangePart}
 use Rattle.season_changes.specs.Sums.{sums_text}
 use Rattle.season_changes.specs.declared.changes.Change.{Change}
 use Rattle.season_changes.specs.declared.comparing.Comparison.{Comparison}
-
--- the bookings of the inventory that the journal comes to are those that the journal leaves
-pub compared_over : (asked : Comparison) (flights : List Flown) (grid : Ladders) (bytes text : List ℕ) (core : Inventory)
-    → IsReplayOf grid bytes core → IsComparisonText asked flights core.grid (state_now core).bookings text
-    → IsComparisonOver asked flights grid bytes text
-compared_over asked flights grid bytes text core is compared = record {
-  entries = core.journal;
-  is_text = is.is_text;
-  legal = is.legal;
-  few = is.few;
-  compared = subst (λ (g : Ladders). IsComparisonText asked flights g (replay g core.journal).bookings text) is.grid_is compared;
-}
 
 pub text_put : (has_journal : Bool) (all : List Change) (start mid new : List ℕ) → start ≡ []
     → IsPut (λ n. IsChangePart has_journal) 0 all start mid → new ≡ mid ++ sums_text has_journal all → AreChangesText has_journal all new

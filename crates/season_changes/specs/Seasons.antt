@@ -4,18 +4,21 @@ use Rattle.ssim_flights.specs.declared.flight.Flight.{Flight as Flown}
 use Rattle.seat_limits.specs.declared.limit_row.LimitRow.{LimitRow}
 use Rattle.seat_nesting.specs.Nesting.{Ladders}
 use Rattle.seat_seal.specs.declared.beside.Beside.{Beside}
+use Rattle.seat_rules.specs.Journal.{replay}
+use Rattle.seat_desk.specs.After.{HoldsAfter}
 use Rattle.seat_desk.specs.Answering.{HasFirstFailed, IsAnswerOf, IsFirstTooLargeOf, IsRefusedAnswerOf}
 use Rattle.seat_desk.specs.AuditDesk.{IsUnlawful}
 use Rattle.seat_desk.specs.Desk.{InputFailed, IsOfInput, OutputFailed}
 use Rattle.seat_desk.specs.Loading.{Bytes, HasFirstLoadFailed, IsFirstTooLargeLoadOf, IsLoadedOf, IsRefusedLoadOf}
 use Rattle.seat_desk.specs.declared.fault.DeskFault.{DeskFault}
 use Rattle.seat_desk.specs.declared.inputs.Inputs.{Inputs}
-use Rattle.season_changes.specs.Comparing.{IsComparisonOver}
+use Rattle.season_changes.specs.Comparing.{IsComparisonText}
 use Rattle.season_changes.specs.declared.comparing.Comparison.{Comparison}
 
 -- what the text says of the flights and the ladders of the old season and a journal, where the question is about a new one
 abbrev pub answers_of : Comparison → List Flown → List LimitRow → Ladders → List ℕ → List ℕ → Type 0
-answers_of asked = λ flights rows grid journal text. IsComparisonOver asked flights grid journal text
+answers_of asked = λ flights rows grid journal text.
+    HoldsAfter (λ entries. IsComparisonText asked flights grid (replay grid entries).bookings text) grid journal
 
 -- the days from the one to the other are those that both seasons have
 pub record AreCommon (first last from from_days to to_days : ℕ) : Type 0 where
