@@ -1,11 +1,10 @@
 //! The table of bookings: a row for each that is asked for.
 //! It knows neither which are asked for nor their order.
-ghost use Rattle.std.specs.Prelude.{◌≡◌, IfOk, OnOk, false, map};
+ghost use Rattle.std.specs.Prelude.{◌≡◌, OnOk, false, map};
 ghost use Rattle.std.specs.List.{AllByRecursion};
-ghost use Rattle.seat_rules.specs.Inventory.{state_now};
 ghost use Rattle.seat_desk.specs.Loading.{IsGridOf};
 ghost use Rattle.seat_lists.specs.Picking.{HasPlace};
-ghost use Rattle.seat_tables.specs.Rows.{IsTable, rows_from};
+ghost use Rattle.seat_tables.specs.Rows.{rows_from};
 ghost use Rattle.seat_tables.specs.Sheets.{ArePut, IsReady};
 ghost use Rattle.table_questions.specs.BookingRows.{booking_names, booking_row, booking_rows, rows_of_booking};
 
@@ -30,32 +29,19 @@ impl<'a> Table for BookingTable<'a> {
 
     ghost rows = { λ asked flights grid journal. booking_rows asked.wanted flights grid journal };
 
-    fn written(
+    fn begun(&self, alloc: Global, form: Form) -> Result<Sheet, AllocError> {
+        Sheet::new(alloc, form, &names())
+    }
+
+    fn put_rows(
         &self,
         alloc: Global,
-        form: Form,
+        sheet: &mut Sheet,
         flights: &Flights,
         core: &Core,
-    ) -> Result<Vec<u8>, AllocError> {
-        booking_table(alloc, form, flights, core, &self.wanted)
+    ) -> Result<(), AllocError> {
+        put_listed(alloc, sheet, flights, core, &self.wanted)
     }
-}
-
-#[tactic(auto, using(seat_tables::proofs::Putting::table_of))]
-fn booking_table(
-    alloc: Global,
-    form: Form,
-    flights: &Flights,
-    core: &Core,
-    wanted: &Wanted<'_>,
-) -> Result<Vec<u8>, AllocError>
-    requires grid { IsGridOf flights.now core.now.grid }
-    ensures { IfOk result (λ text. IsTable form booking_names
-        (booking_rows wanted.now flights.now core.now.grid core.now.journal) text.items) }
-{
-    let mut sheet = Sheet::new(alloc, form, &names())?;
-    put_listed(alloc, &mut sheet, flights, core, wanted)?;
-    sheet.into_text()
 }
 
 /// Adds a row for each booking that is asked for, in the order of the list.

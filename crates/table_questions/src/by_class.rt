@@ -1,15 +1,14 @@
 //! The table of loads by class: the seats of each class on the kept legs.
 //! It knows no other table.
-ghost use Rattle.std.specs.Prelude.{◌≡◌, ◌≤◌, ◌∷◌, [], IfOk, OnOk, if◌then◌else◌, length, map, nat_lt};
+ghost use Rattle.std.specs.Prelude.{◌≡◌, ◌≤◌, ◌∷◌, [], OnOk, if◌then◌else◌, length, map, nat_lt};
 ghost use Rattle.std.specs.List.{sum_by};
 ghost use Rattle.seat_nesting.specs.Nesting.{has_class};
 ghost use Rattle.seat_rules.specs.Bookings.{is_held, is_waiting};
 ghost use Rattle.seat_rules.specs.Inventory.{state_now};
 ghost use Rattle.seat_desk.specs.AuditDesk.{most_lines};
 ghost use Rattle.seat_loads.specs.Sums.{most_riders, on_flight, on_leg, on_legs, over_legs};
-ghost use Rattle.seat_tables.specs.Rows.{IsTable};
 ghost use Rattle.seat_tables.specs.Sheets.{ArePut, IsReady};
-ghost use Rattle.table_questions.specs.SumRows.{class_count, class_names, class_row, class_sums, counted, rows_of_each, seats_in, sums_of_class};
+ghost use Rattle.table_questions.specs.SumRows.{class_count, class_names, class_row, class_sums, counted, seats_in, sums_of_class};
 
 use crate::table::Table;
 use airline_base::Class;
@@ -47,32 +46,19 @@ impl Table for ClassSums {
 
     ghost rows = { λ asked flights grid journal. class_sums asked.loads flights grid journal };
 
-    fn written(
+    fn begun(&self, alloc: Global, form: Form) -> Result<Sheet, AllocError> {
+        Sheet::new(alloc, form, &names())
+    }
+
+    fn put_rows(
         &self,
         alloc: Global,
-        form: Form,
+        sheet: &mut Sheet,
         flights: &Flights,
         core: &Core,
-    ) -> Result<Vec<u8>, AllocError> {
-        classes_table(alloc, form, flights, core, &self.loads)
+    ) -> Result<(), AllocError> {
+        put_classes(alloc, sheet, flights, core, &self.loads)
     }
-}
-
-#[tactic(auto, using(seat_tables::proofs::Putting::table_of))]
-fn classes_table(
-    alloc: Global,
-    form: Form,
-    flights: &Flights,
-    core: &Core,
-    asked: &LoadsOf,
-) -> Result<Vec<u8>, AllocError>
-    requires capped { core.now.cap ≤ most_lines }
-    ensures { IfOk result (λ text. IsTable form class_names
-        (class_sums asked.now flights.now core.now.grid core.now.journal) text.items) }
-{
-    let mut sheet = Sheet::new(alloc, form, &names())?;
-    put_classes(alloc, &mut sheet, flights, core, asked)?;
-    sheet.into_text()
 }
 
 /// The names of the columns.

@@ -1,14 +1,13 @@
 //! The table of loads by day: what the kept legs come to that depart on each day.
 //! It knows no other table.
-ghost use Rattle.std.specs.Prelude.{◌≡◌, ◌≤◌, ◌&&◌, ◌∷◌, [], IfOk, OnOk, length, map, nat_lt};
+ghost use Rattle.std.specs.Prelude.{◌≡◌, ◌≤◌, ◌&&◌, ◌∷◌, [], OnOk, map, nat_lt};
 ghost use Rattle.airline_base.specs.Days.{IsDay};
 ghost use Rattle.seat_rules.specs.Inventory.{state_now};
 ghost use Rattle.seat_desk.specs.AuditDesk.{most_lines};
 ghost use Rattle.seat_loads.specs.Sums.{AreFewLegs};
 ghost use Rattle.seat_questions.specs.Rooms.{keeps_day};
-ghost use Rattle.seat_tables.specs.Rows.{IsTable};
 ghost use Rattle.seat_tables.specs.Sheets.{ArePut, IsReady};
-ghost use Rattle.table_questions.specs.SumRows.{day_cells, day_count, day_names, day_sums, days_from, earliest, earliest_of, latest, latest_of, on_day, rows_of_each, sums_of_day};
+ghost use Rattle.table_questions.specs.SumRows.{day_cells, day_names, day_sums, days_from, earliest, latest, latest_of, on_day, sums_of_day};
 
 use crate::table::Table;
 use airline_base::Day;
@@ -32,32 +31,19 @@ impl Table for DaySums {
 
     ghost rows = { λ asked flights grid journal. day_sums asked.loads flights grid journal };
 
-    fn written(
+    fn begun(&self, alloc: Global, form: Form) -> Result<Sheet, AllocError> {
+        Sheet::new(alloc, form, &names())
+    }
+
+    fn put_rows(
         &self,
         alloc: Global,
-        form: Form,
+        sheet: &mut Sheet,
         flights: &Flights,
         core: &Core,
-    ) -> Result<Vec<u8>, AllocError> {
-        days_table(alloc, form, flights, core, &self.loads)
+    ) -> Result<(), AllocError> {
+        put_days(alloc, sheet, flights, core, &self.loads)
     }
-}
-
-#[tactic(auto, using(seat_tables::proofs::Putting::table_of))]
-fn days_table(
-    alloc: Global,
-    form: Form,
-    flights: &Flights,
-    core: &Core,
-    asked: &LoadsOf,
-) -> Result<Vec<u8>, AllocError>
-    requires capped { core.now.cap ≤ most_lines }
-    ensures { IfOk result (λ text. IsTable form day_names
-        (day_sums asked.now flights.now core.now.grid core.now.journal) text.items) }
-{
-    let mut sheet = Sheet::new(alloc, form, &names())?;
-    put_days(alloc, &mut sheet, flights, core, asked)?;
-    sheet.into_text()
 }
 
 /// The names of the columns.

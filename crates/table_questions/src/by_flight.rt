@@ -1,9 +1,8 @@
 //! The table of loads by flight: what the kept legs of each flight come to.
 //! It knows no other table.
-ghost use Rattle.std.specs.Prelude.{◌≡◌, ◌≤◌, IfOk, OnOk, length, map, nat_lt};
+ghost use Rattle.std.specs.Prelude.{◌≡◌, ◌≤◌, OnOk, length, map, nat_lt};
 ghost use Rattle.seat_rules.specs.Inventory.{state_now};
 ghost use Rattle.seat_desk.specs.AuditDesk.{most_lines};
-ghost use Rattle.seat_tables.specs.Rows.{IsTable};
 ghost use Rattle.seat_tables.specs.Sheets.{ArePut, IsReady};
 ghost use Rattle.table_questions.specs.SumRows.{cells_of, flight_names, flight_sums, sums_of_flight};
 
@@ -27,32 +26,19 @@ impl Table for FlightSums {
 
     ghost rows = { λ asked flights grid journal. flight_sums asked.loads flights grid journal };
 
-    fn written(
+    fn begun(&self, alloc: Global, form: Form) -> Result<Sheet, AllocError> {
+        Sheet::new(alloc, form, &names())
+    }
+
+    fn put_rows(
         &self,
         alloc: Global,
-        form: Form,
+        sheet: &mut Sheet,
         flights: &Flights,
         core: &Core,
-    ) -> Result<Vec<u8>, AllocError> {
-        sums_table(alloc, form, flights, core, &self.loads)
+    ) -> Result<(), AllocError> {
+        put_flights(alloc, sheet, flights, core, &self.loads)
     }
-}
-
-#[tactic(auto, using(seat_tables::proofs::Putting::table_of))]
-fn sums_table(
-    alloc: Global,
-    form: Form,
-    flights: &Flights,
-    core: &Core,
-    asked: &LoadsOf,
-) -> Result<Vec<u8>, AllocError>
-    requires capped { core.now.cap ≤ most_lines }
-    ensures { IfOk result (λ text. IsTable form flight_names
-        (flight_sums asked.now flights.now core.now.grid core.now.journal) text.items) }
-{
-    let mut sheet = Sheet::new(alloc, form, &names())?;
-    put_flights(alloc, &mut sheet, flights, core, asked)?;
-    sheet.into_text()
 }
 
 /// The names of the columns.

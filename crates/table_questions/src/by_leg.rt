@@ -1,10 +1,10 @@
 //! The table of loads by leg: how full each leg is that is kept, in one row.
 //! It knows no other table.
-ghost use Rattle.std.specs.Prelude.{◌≡◌, ◌≤◌, ◌∷◌, [], IfOk, OnOk, length, map};
+ghost use Rattle.std.specs.Prelude.{◌≡◌, ◌≤◌, ◌∷◌, [], OnOk, length, map};
 ghost use Rattle.std.specs.List.{sum_by};
 ghost use Rattle.seat_rules.specs.Inventory.{state_now};
 ghost use Rattle.seat_desk.specs.AuditDesk.{most_lines};
-ghost use Rattle.seat_tables.specs.Rows.{IsTable, rows_from};
+ghost use Rattle.seat_tables.specs.Rows.{rows_from};
 ghost use Rattle.seat_tables.specs.Sheets.{ArePut, IsReady};
 ghost use Rattle.table_questions.specs.SumRows.{leg_names, leg_row, leg_sums, legs_of_flight, sums_of_leg, waiting_on, waits_for};
 
@@ -31,32 +31,19 @@ impl Table for LegSums {
 
     ghost rows = { λ asked flights grid journal. leg_sums asked.loads flights grid journal };
 
-    fn written(
+    fn begun(&self, alloc: Global, form: Form) -> Result<Sheet, AllocError> {
+        Sheet::new(alloc, form, &names())
+    }
+
+    fn put_rows(
         &self,
         alloc: Global,
-        form: Form,
+        sheet: &mut Sheet,
         flights: &Flights,
         core: &Core,
-    ) -> Result<Vec<u8>, AllocError> {
-        legs_table(alloc, form, flights, core, &self.loads)
+    ) -> Result<(), AllocError> {
+        put_flights(alloc, sheet, flights, core, &self.loads)
     }
-}
-
-#[tactic(auto, using(seat_tables::proofs::Putting::table_of))]
-fn legs_table(
-    alloc: Global,
-    form: Form,
-    flights: &Flights,
-    core: &Core,
-    asked: &LoadsOf,
-) -> Result<Vec<u8>, AllocError>
-    requires capped { core.now.cap ≤ most_lines }
-    ensures { IfOk result (λ text. IsTable form leg_names
-        (leg_sums asked.now flights.now core.now.grid core.now.journal) text.items) }
-{
-    let mut sheet = Sheet::new(alloc, form, &names())?;
-    put_flights(alloc, &mut sheet, flights, core, asked)?;
-    sheet.into_text()
 }
 
 /// The names of the columns.

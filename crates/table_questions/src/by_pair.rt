@@ -1,13 +1,13 @@
 //! The table of loads by pair: what the kept legs come to that run between each two stations.
 //! It knows no other table.
-ghost use Rattle.std.specs.Prelude.{◌≡◌, ◌≤◌, ◌∷◌, [], IfOk, OnOk, Some, if◌then◌else◌, length, map, nat_lt};
+ghost use Rattle.std.specs.Prelude.{◌≡◌, ◌≤◌, ◌∷◌, [], IfOk, OnOk, Some, if◌then◌else◌, map, nat_lt};
 ghost use Rattle.std.specs.List.{list_any};
 ghost use Rattle.seat_rules.specs.Inventory.{state_now};
 ghost use Rattle.seat_desk.specs.AuditDesk.{most_lines};
 ghost use Rattle.seat_loads.specs.Legs.{is_kept};
 ghost use Rattle.seat_loads.specs.Sums.{AreFewLegs};
 ghost use Rattle.seat_questions.specs.Rooms.{keeps_pair};
-ghost use Rattle.seat_tables.specs.Rows.{IsTable, rows_from};
+ghost use Rattle.seat_tables.specs.Rows.{rows_from};
 ghost use Rattle.seat_tables.specs.Sheets.{ArePut, IsReady};
 ghost use Rattle.table_questions.specs.SumRows.{on_pair, pair_cells, pair_names, pair_of, pair_sums, sums_of_pair, with_flights, with_legs, with_pair};
 
@@ -33,33 +33,20 @@ impl Table for PairSums {
 
     ghost rows = { λ asked flights grid journal. pair_sums asked.loads flights grid journal };
 
-    fn written(
+    fn begun(&self, alloc: Global, form: Form) -> Result<Sheet, AllocError> {
+        Sheet::new(alloc, form, &names())
+    }
+
+    fn put_rows(
         &self,
         alloc: Global,
-        form: Form,
+        sheet: &mut Sheet,
         flights: &Flights,
         core: &Core,
-    ) -> Result<Vec<u8>, AllocError> {
-        pairs_table(alloc, form, flights, core, &self.loads)
+    ) -> Result<(), AllocError> {
+        let pairs = kept_pairs(alloc, flights, &self.loads)?;
+        put_pairs(alloc, sheet, flights, core, &self.loads, pairs.as_slice())
     }
-}
-
-#[tactic(auto, using(seat_tables::proofs::Putting::table_of))]
-fn pairs_table(
-    alloc: Global,
-    form: Form,
-    flights: &Flights,
-    core: &Core,
-    asked: &LoadsOf,
-) -> Result<Vec<u8>, AllocError>
-    requires capped { core.now.cap ≤ most_lines }
-    ensures { IfOk result (λ text. IsTable form pair_names
-        (pair_sums asked.now flights.now core.now.grid core.now.journal) text.items) }
-{
-    let mut sheet = Sheet::new(alloc, form, &names())?;
-    let pairs = kept_pairs(alloc, flights, asked)?;
-    put_pairs(alloc, &mut sheet, flights, core, asked, pairs.as_slice())?;
-    sheet.into_text()
 }
 
 /// The names of the columns.

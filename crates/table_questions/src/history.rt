@@ -1,7 +1,7 @@
 //! The table of a history: what the lines of a journal did for a locator, or on a flight, row by row.
 //! It knows no other table.
-ghost use Rattle.std.specs.Prelude.{◌≡◌, IfOk, OnOk, map};
-ghost use Rattle.seat_tables.specs.Rows.{IsTable, rows_from};
+ghost use Rattle.std.specs.Prelude.{◌≡◌, OnOk, map};
+ghost use Rattle.seat_tables.specs.Rows.{rows_from};
 ghost use Rattle.seat_tables.specs.Sheets.{ArePut, IsReady};
 ghost use Rattle.desk_questions.specs.History.{is_wanted, under};
 ghost use Rattle.table_questions.specs.HistoryRows.{advice_row, advice_rows, asked_row, asked_rows, board_in, cancelled_by, day_in, designator_in, held_by, history_names, line_rows, listed_by, off_in};
@@ -32,31 +32,19 @@ impl<'a> Table for HistoryTable<'a> {
 
     ghost rows = { λ asked flights grid journal. history_rows asked.wanted flights grid journal };
 
-    fn written(
+    fn begun(&self, alloc: Global, form: Form) -> Result<Sheet, AllocError> {
+        Sheet::new(alloc, form, &names())
+    }
+
+    fn put_rows(
         &self,
         alloc: Global,
-        form: Form,
+        sheet: &mut Sheet,
         flights: &Flights,
         core: &Core,
-    ) -> Result<Vec<u8>, AllocError> {
-        history_table(alloc, form, flights, core.journal(), &self.wanted)
+    ) -> Result<(), AllocError> {
+        put_lines(alloc, sheet, flights, core.journal(), &self.wanted)
     }
-}
-
-#[tactic(auto, using(seat_tables::proofs::Putting::table_of))]
-fn history_table(
-    alloc: Global,
-    form: Form,
-    flights: &Flights,
-    journal: &[Entry],
-    wanted: &Wanted<'_>,
-) -> Result<Vec<u8>, AllocError>
-    ensures { IfOk result (λ text. IsTable form history_names
-        (rows_from (line_rows flights.now journal.now (is_wanted flights.now wanted.now)) 0 journal.now) text.items) }
-{
-    let mut sheet = Sheet::new(alloc, form, &names())?;
-    put_lines(alloc, &mut sheet, flights, journal, wanted)?;
-    sheet.into_text()
 }
 
 /// The names of the columns.

@@ -1,12 +1,12 @@
 //! The table of loads: a row for each class of each leg that is kept.
 //! It knows no other table, and nothing of sums.
-ghost use Rattle.std.specs.Prelude.{◌≡◌, ◌≤◌, ◌<◌, IfOk, OnOk, length, map};
-ghost use Rattle.seat_nesting.specs.Nesting.{Fits, ladder_at, legs_of};
+ghost use Rattle.std.specs.Prelude.{◌≡◌, ◌≤◌, ◌<◌, OnOk, length, map};
+ghost use Rattle.seat_nesting.specs.Nesting.{ladder_at, legs_of};
 ghost use Rattle.seat_rules.specs.Inventory.{state_now};
 ghost use Rattle.seat_desk.specs.AuditDesk.{most_lines};
 ghost use Rattle.seat_desk.specs.Loading.{IsGridOf};
 ghost use Rattle.seat_questions.specs.Why.{one_leg};
-ghost use Rattle.seat_tables.specs.Rows.{IsTable, rows_from};
+ghost use Rattle.seat_tables.specs.Rows.{rows_from};
 ghost use Rattle.seat_tables.specs.Sheets.{ArePut, IsReady};
 ghost use Rattle.table_questions.specs.LoadRows.{class_rows, flight_rows, leg_rows, load_names, load_row, load_rows};
 
@@ -34,33 +34,19 @@ impl Table for LoadTable {
 
     ghost rows = { λ asked flights grid journal. load_rows asked.loads flights grid journal };
 
-    fn written(
+    fn begun(&self, alloc: Global, form: Form) -> Result<Sheet, AllocError> {
+        Sheet::new(alloc, form, &names())
+    }
+
+    fn put_rows(
         &self,
         alloc: Global,
-        form: Form,
+        sheet: &mut Sheet,
         flights: &Flights,
         core: &Core,
-    ) -> Result<Vec<u8>, AllocError> {
-        load_table(alloc, form, flights, core, &self.loads)
+    ) -> Result<(), AllocError> {
+        put_flights(alloc, sheet, flights, core, &self.loads)
     }
-}
-
-#[tactic(auto, using(seat_tables::proofs::Putting::table_of))]
-fn load_table(
-    alloc: Global,
-    form: Form,
-    flights: &Flights,
-    core: &Core,
-    asked: &LoadsOf,
-) -> Result<Vec<u8>, AllocError>
-    requires grid { IsGridOf flights.now core.now.grid }
-    requires capped { core.now.cap ≤ most_lines }
-    ensures { IfOk result (λ text. IsTable form load_names
-        (load_rows asked.now flights.now core.now.grid core.now.journal) text.items) }
-{
-    let mut sheet = Sheet::new(alloc, form, &names())?;
-    put_flights(alloc, &mut sheet, flights, core, asked)?;
-    sheet.into_text()
 }
 
 /// The names of the columns.

@@ -1,13 +1,12 @@
 //! The table of rooms: a row for each class of each place that a request finds.
 //! It knows no other table.
-ghost use Rattle.std.specs.Prelude.{◌≡◌, ◌++◌, ◌≤◌, ◌<◌, IfOk, OnOk, drop, length, map};
+ghost use Rattle.std.specs.Prelude.{◌≡◌, ◌≤◌, ◌<◌, OnOk, length, map};
 ghost use Rattle.seat_nesting.specs.Nesting.{Fits, ladder_at, legs_of};
 ghost use Rattle.seat_rules.specs.Inventory.{state_now};
-ghost use Rattle.seat_desk.specs.AuditDesk.{most_lines};
 ghost use Rattle.seat_desk.specs.Loading.{IsGridOf};
-ghost use Rattle.seat_tables.specs.Rows.{IsTable, rows_from};
+ghost use Rattle.seat_tables.specs.Rows.{rows_from};
 ghost use Rattle.seat_tables.specs.Sheets.{ArePut, IsReady};
-ghost use Rattle.table_questions.specs.RoomRows.{class_rooms, first_rooms, flight_rooms, last_rooms, place_rooms, room_names, room_row, room_rows};
+ghost use Rattle.table_questions.specs.RoomRows.{class_rooms, first_rooms, flight_rooms, place_rooms, room_names, room_row, room_rows};
 
 use crate::table::Table;
 use airline_base::Place;
@@ -31,37 +30,22 @@ impl Table for RoomTable {
 
     ghost rows = { λ asked flights grid journal. room_rows asked.rooms flights grid journal };
 
-    fn written(
+    fn begun(&self, alloc: Global, form: Form) -> Result<Sheet, AllocError> {
+        Sheet::new(alloc, form, &names())
+    }
+
+    fn put_rows(
         &self,
         alloc: Global,
-        form: Form,
+        sheet: &mut Sheet,
         flights: &Flights,
         core: &Core,
-    ) -> Result<Vec<u8>, AllocError> {
+    ) -> Result<(), AllocError> {
         match Served::new(alloc, flights) {
-            Ok(served) => room_table(alloc, form, flights, &served, core, &self.rooms),
+            Ok(served) => put_flights(alloc, sheet, flights, &served, core, &self.rooms),
             Err(_) => Err(AllocError),
         }
     }
-}
-
-#[tactic(auto, using(seat_tables::proofs::Putting::table_of))]
-fn room_table(
-    alloc: Global,
-    form: Form,
-    flights: &Flights,
-    served: &Served<'_>,
-    core: &Core,
-    asked: &RoomsOf,
-) -> Result<Vec<u8>, AllocError>
-    requires grid { IsGridOf flights.now core.now.grid }
-    requires served { served.now ≡ flights.now }
-    ensures { IfOk result (λ text. IsTable form room_names
-        (room_rows asked.now flights.now core.now.grid core.now.journal) text.items) }
-{
-    let mut sheet = Sheet::new(alloc, form, &names())?;
-    put_flights(alloc, &mut sheet, flights, served, core, asked)?;
-    sheet.into_text()
 }
 
 /// The names of the columns.

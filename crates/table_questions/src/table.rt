@@ -1,13 +1,13 @@
 //! What a table says of itself, and the question that it answers.
 //! It knows no table.
-ghost use Rattle.std.specs.Prelude.{◌≤◌, IfOk};
+ghost use Rattle.std.specs.Prelude.{◌≤◌, IfOk, OnOk};
 ghost use Rattle.seat_desk.specs.AuditDesk.{most_lines};
 ghost use Rattle.seat_desk.specs.Loading.{IsGridOf};
-ghost use Rattle.seat_tables.specs.Rows.{IsTable};
+ghost use Rattle.seat_tables.specs.Sheets.{ArePut, IsBegun, IsReady};
 
 use seat_core::Core;
 use seat_desk::Standing;
-use seat_tables::Form;
+use seat_tables::{Form, Sheet};
 use ssim_flights::Flights;
 use std::alloc::{AllocError, Global};
 
@@ -25,18 +25,23 @@ pub trait Table {
     // The rows over these flights and opening limits, after these lines.
     ghost rows: { Self → List Flight → Ladders → List Entry → List (List Cell) };
 
-    /// The table after the lines of an inventory.
-    fn written(
+    /// A sheet with the head of the table, and no row.
+    fn begun(&self, alloc: Global, form: Form) -> Result<Sheet, AllocError>
+        ensures { IfOk result (IsBegun form names) };
+
+    /// Adds the rows after the lines of an inventory.
+    fn put_rows(
         &self,
         alloc: Global,
-        form: Form,
+        sheet: &mut Sheet,
         flights: &Flights,
         core: &Core,
-    ) -> Result<Vec<u8>, AllocError>
+    ) -> Result<(), AllocError>
+        requires ready { IsReady sheet.old }
         requires grid { IsGridOf flights.now core.now.grid }
         requires capped { core.now.cap ≤ most_lines }
-        ensures { IfOk result (λ text. IsTable form names (rows self.now flights.now core.now.grid core.now.journal)
-            text.items) };
+        ensures { OnOk result (ArePut names (rows self.now flights.now core.now.grid core.now.journal)
+            sheet.old sheet.new) };
 }
 
 /// The table, in a form.
@@ -52,12 +57,15 @@ impl<'a, T: Table> Standing for TableOf<'a, T> {
     ghost tells = { λ asked flights grid entries text.
         IsTable asked.form T.names (T.rows asked.asked.now flights grid entries) text };
 
+    #[tactic(auto, using(seat_tables::proofs::Putting::table_of))]
     fn standing(
         &self,
         alloc: Global,
         flights: &Flights,
         core: &Core,
     ) -> Result<Vec<u8>, AllocError> {
-        self.asked.written(alloc, self.form, flights, core)
+        let mut sheet = self.asked.begun(alloc, self.form)?;
+        self.asked.put_rows(alloc, &mut sheet, flights, core)?;
+        sheet.into_text()
     }
 }

@@ -1,12 +1,12 @@
 //! The table of who waits: a row for each booking that does, in the order in which they would be confirmed.
 //! It knows neither which are asked for nor their order.
-ghost use Rattle.std.specs.Prelude.{◌≡◌, IfOk, OnOk, map, true};
+ghost use Rattle.std.specs.Prelude.{◌≡◌, OnOk, map, true};
 ghost use Rattle.std.specs.List.{AllByRecursion};
 ghost use Rattle.seat_nesting.specs.Nesting.{Fits};
 ghost use Rattle.seat_rules.specs.Inventory.{state_now};
 ghost use Rattle.seat_desk.specs.Loading.{IsGridOf};
 ghost use Rattle.seat_lists.specs.Picking.{IsThere};
-ghost use Rattle.seat_tables.specs.Rows.{IsTable, rows_from};
+ghost use Rattle.seat_tables.specs.Rows.{rows_from};
 ghost use Rattle.seat_tables.specs.Sheets.{ArePut, IsReady};
 ghost use Rattle.table_questions.specs.BookingRows.{waiting_names, waiting_row, waiting_rows, rows_of_waiter};
 
@@ -31,32 +31,19 @@ impl<'a> Table for WaitingTable<'a> {
 
     ghost rows = { λ asked flights grid journal. waiting_rows asked.wanted flights grid journal };
 
-    fn written(
+    fn begun(&self, alloc: Global, form: Form) -> Result<Sheet, AllocError> {
+        Sheet::new(alloc, form, &names())
+    }
+
+    fn put_rows(
         &self,
         alloc: Global,
-        form: Form,
+        sheet: &mut Sheet,
         flights: &Flights,
         core: &Core,
-    ) -> Result<Vec<u8>, AllocError> {
-        waiting_table(alloc, form, flights, core, &self.wanted)
+    ) -> Result<(), AllocError> {
+        put_listed(alloc, sheet, flights, core, &self.wanted)
     }
-}
-
-#[tactic(auto, using(seat_tables::proofs::Putting::table_of))]
-fn waiting_table(
-    alloc: Global,
-    form: Form,
-    flights: &Flights,
-    core: &Core,
-    wanted: &Wanted<'_>,
-) -> Result<Vec<u8>, AllocError>
-    requires grid { IsGridOf flights.now core.now.grid }
-    ensures { IfOk result (λ text. IsTable form waiting_names
-        (waiting_rows wanted.now flights.now core.now.grid core.now.journal) text.items) }
-{
-    let mut sheet = Sheet::new(alloc, form, &names())?;
-    put_listed(alloc, &mut sheet, flights, core, wanted)?;
-    sheet.into_text()
 }
 
 /// Adds a row for each booking that waits and is asked for.
