@@ -2,7 +2,6 @@
 //! It knows neither which are asked for nor their order.
 ghost use Rattle.std.specs.Prelude.{◌≡◌, OnOk, false, map};
 ghost use Rattle.std.specs.List.{AllByRecursion};
-ghost use Rattle.seat_desk.specs.Loading.{IsGridOf};
 ghost use Rattle.seat_lists.specs.Picking.{HasPlace};
 ghost use Rattle.seat_tables.specs.Rows.{rows_from};
 ghost use Rattle.seat_tables.specs.Sheets.{ArePut, IsReady};
@@ -40,27 +39,11 @@ impl<'a> Table for BookingTable<'a> {
         flights: &Flights,
         core: &Core,
     ) -> Result<(), AllocError> {
-        put_listed(alloc, sheet, flights, core, &self.wanted)
+        let all = picked(alloc, flights, core, &self.wanted, false)?;
+        let shown = listed(alloc, self.wanted.flight, all)?;
+        put_bookings(alloc, sheet, flights, shown.as_slice())?;
+        Ok(())
     }
-}
-
-/// Adds a row for each booking that is asked for, in the order of the list.
-fn put_listed(
-    alloc: Global,
-    sheet: &mut Sheet,
-    flights: &Flights,
-    core: &Core,
-    wanted: &Wanted<'_>,
-) -> Result<(), AllocError>
-    requires ready { IsReady sheet.old }
-    requires grid { IsGridOf flights.now core.now.grid }
-    ensures { OnOk result (ArePut booking_names
-        (booking_rows wanted.now flights.now core.now.grid core.now.journal) sheet.old sheet.new) }
-{
-    let all = picked(alloc, flights, core, wanted, false)?;
-    let shown = listed(alloc, wanted.flight, all)?;
-    put_bookings(alloc, sheet, flights, shown.as_slice())?;
-    Ok(())
 }
 
 /// The names of the columns.

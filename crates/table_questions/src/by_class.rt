@@ -57,7 +57,10 @@ impl Table for ClassSums {
         flights: &Flights,
         core: &Core,
     ) -> Result<(), AllocError> {
-        put_classes(alloc, sheet, flights, core, &self.loads)
+        for i in 0..26u8 {
+            put_letter(alloc, sheet, flights, core, &self.loads, b'A' + i)?;
+        }
+        Ok(())
     }
 }
 
@@ -66,25 +69,6 @@ fn names() -> [&'static str; 4]
     ensures { map (λ n. n.now) result ≡ class_names }
 {
     ["class", "legs", "held", "waiting"]
-}
-
-/// Adds the rows of the classes, from A to Z.
-fn put_classes(
-    alloc: Global,
-    sheet: &mut Sheet,
-    flights: &Flights,
-    core: &Core,
-    asked: &LoadsOf,
-) -> Result<(), AllocError>
-    requires ready { IsReady sheet.old }
-    requires capped { core.now.cap ≤ most_lines }
-    ensures { OnOk result (ArePut class_names (class_sums asked.now flights.now core.now.grid core.now.journal)
-        sheet.old sheet.new) }
-{
-    for i in 0..26u8 {
-        put_letter(alloc, sheet, flights, core, asked, b'A' + i)?;
-    }
-    Ok(())
 }
 
 /// Adds the row of the class of a letter.

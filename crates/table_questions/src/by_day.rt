@@ -42,7 +42,19 @@ impl Table for DaySums {
         flights: &Flights,
         core: &Core,
     ) -> Result<(), AllocError> {
-        put_days(alloc, sheet, flights, core, &self.loads)
+        let first = days_from(flights);
+        let count = (latest_of(flights) + 1).saturating_sub(first);
+        for i in 0..count {
+            put_day(
+                alloc,
+                sheet,
+                flights,
+                core,
+                &self.loads,
+                Day::numbered(first + i),
+            )?;
+        }
+        Ok(())
     }
 }
 
@@ -59,27 +71,6 @@ fn names() -> [&'static str; 7]
         "passengers",
         "waiting",
     ]
-}
-
-/// Adds the rows of all days that are kept.
-fn put_days(
-    alloc: Global,
-    sheet: &mut Sheet,
-    flights: &Flights,
-    core: &Core,
-    asked: &LoadsOf,
-) -> Result<(), AllocError>
-    requires ready { IsReady sheet.old }
-    requires capped { core.now.cap ≤ most_lines }
-    ensures { OnOk result (ArePut day_names (day_sums asked.now flights.now core.now.grid core.now.journal)
-        sheet.old sheet.new) }
-{
-    let first = days_from(flights);
-    let count = (latest_of(flights) + 1).saturating_sub(first);
-    for i in 0..count {
-        put_day(alloc, sheet, flights, core, asked, Day::numbered(first + i))?;
-    }
-    Ok(())
 }
 
 /// Adds the row of a day, if it is kept and a kept leg departs on it.

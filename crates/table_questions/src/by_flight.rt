@@ -37,7 +37,17 @@ impl Table for FlightSums {
         flights: &Flights,
         core: &Core,
     ) -> Result<(), AllocError> {
-        put_flights(alloc, sheet, flights, core, &self.loads)
+        for index in 0..flights.len() {
+            put_flight(
+                alloc,
+                sheet,
+                core,
+                &self.loads,
+                index,
+                flights.flight(index),
+            )?;
+        }
+        Ok(())
     }
 }
 
@@ -55,25 +65,6 @@ fn names() -> [&'static str; 8]
         "passengers",
         "waiting",
     ]
-}
-
-/// Adds the rows of all flights that are kept.
-fn put_flights(
-    alloc: Global,
-    sheet: &mut Sheet,
-    flights: &Flights,
-    core: &Core,
-    asked: &LoadsOf,
-) -> Result<(), AllocError>
-    requires ready { IsReady sheet.old }
-    requires capped { core.now.cap ≤ most_lines }
-    ensures { OnOk result (ArePut flight_names (flight_sums asked.now flights.now core.now.grid core.now.journal)
-        sheet.old sheet.new) }
-{
-    for index in 0..flights.len() {
-        put_flight(alloc, sheet, core, asked, index, flights.flight(index))?;
-    }
-    Ok(())
 }
 
 /// Adds the row of a flight, if any leg of it is kept.

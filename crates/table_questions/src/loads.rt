@@ -4,7 +4,6 @@ ghost use Rattle.std.specs.Prelude.{◌≡◌, ◌≤◌, ◌<◌, OnOk, length,
 ghost use Rattle.seat_nesting.specs.Nesting.{ladder_at, legs_of};
 ghost use Rattle.seat_rules.specs.Inventory.{state_now};
 ghost use Rattle.seat_desk.specs.AuditDesk.{most_lines};
-ghost use Rattle.seat_desk.specs.Loading.{IsGridOf};
 ghost use Rattle.seat_questions.specs.Why.{one_leg};
 ghost use Rattle.seat_tables.specs.Rows.{rows_from};
 ghost use Rattle.seat_tables.specs.Sheets.{ArePut, IsReady};
@@ -38,6 +37,7 @@ impl Table for LoadTable {
         Sheet::new(alloc, form, &names())
     }
 
+    #[tactic(auto, using(seat_questions::proofs::RoomTexts::legs_alike))]
     fn put_rows(
         &self,
         alloc: Global,
@@ -45,7 +45,17 @@ impl Table for LoadTable {
         flights: &Flights,
         core: &Core,
     ) -> Result<(), AllocError> {
-        put_flights(alloc, sheet, flights, core, &self.loads)
+        for index in 0..flights.len() {
+            put_flight(
+                alloc,
+                sheet,
+                core,
+                &self.loads,
+                index,
+                flights.flight(index),
+            )?;
+        }
+        Ok(())
     }
 }
 
@@ -68,27 +78,6 @@ fn names() -> [&'static str; 13]
         "waiting",
         "may_wait",
     ]
-}
-
-/// Adds the rows of all flights that are kept.
-#[tactic(auto, using(seat_questions::proofs::RoomTexts::legs_alike))]
-fn put_flights(
-    alloc: Global,
-    sheet: &mut Sheet,
-    flights: &Flights,
-    core: &Core,
-    asked: &LoadsOf,
-) -> Result<(), AllocError>
-    requires ready { IsReady sheet.old }
-    requires grid { IsGridOf flights.now core.now.grid }
-    requires capped { core.now.cap ≤ most_lines }
-    ensures { OnOk result (ArePut load_names (load_rows asked.now flights.now core.now.grid core.now.journal)
-        sheet.old sheet.new) }
-{
-    for index in 0..flights.len() {
-        put_flight(alloc, sheet, core, asked, index, flights.flight(index))?;
-    }
-    Ok(())
 }
 
 /// Adds the rows of a flight, if it is kept.

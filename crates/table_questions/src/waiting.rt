@@ -4,7 +4,6 @@ ghost use Rattle.std.specs.Prelude.{◌≡◌, OnOk, map, true};
 ghost use Rattle.std.specs.List.{AllByRecursion};
 ghost use Rattle.seat_nesting.specs.Nesting.{Fits};
 ghost use Rattle.seat_rules.specs.Inventory.{state_now};
-ghost use Rattle.seat_desk.specs.Loading.{IsGridOf};
 ghost use Rattle.seat_lists.specs.Picking.{IsThere};
 ghost use Rattle.seat_tables.specs.Rows.{rows_from};
 ghost use Rattle.seat_tables.specs.Sheets.{ArePut, IsReady};
@@ -42,26 +41,10 @@ impl<'a> Table for WaitingTable<'a> {
         flights: &Flights,
         core: &Core,
     ) -> Result<(), AllocError> {
-        put_listed(alloc, sheet, flights, core, &self.wanted)
+        let all = picked(alloc, flights, core, &self.wanted, true)?;
+        put_waiters(alloc, sheet, flights, core, all.as_slice())?;
+        Ok(())
     }
-}
-
-/// Adds a row for each booking that waits and is asked for.
-fn put_listed(
-    alloc: Global,
-    sheet: &mut Sheet,
-    flights: &Flights,
-    core: &Core,
-    wanted: &Wanted<'_>,
-) -> Result<(), AllocError>
-    requires ready { IsReady sheet.old }
-    requires grid { IsGridOf flights.now core.now.grid }
-    ensures { OnOk result (ArePut waiting_names
-        (waiting_rows wanted.now flights.now core.now.grid core.now.journal) sheet.old sheet.new) }
-{
-    let all = picked(alloc, flights, core, wanted, true)?;
-    put_waiters(alloc, sheet, flights, core, all.as_slice())?;
-    Ok(())
 }
 
 /// The names of the columns.

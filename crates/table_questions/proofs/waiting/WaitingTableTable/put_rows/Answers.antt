@@ -5,7 +5,7 @@ use Rattle.seat_lists.proofs.LiveTexts.{all_sliced}
 use Rattle.seat_tables.specs.Rows.{rows_from}
 use Rattle.seat_tables.specs.Sheets.{ArePut}
 use Rattle.table_questions.specs.BookingRows.{rows_of_waiter, waiting_names}
-use Rattle.table_questions.proofs.waiting.put_listed.Goals as goal
+use Rattle.table_questions.proofs.waiting.WaitingTableTable.put_rows.Goals as goal
 
 pub put_waiters-requires : goal.put_waiters-requires
 put_waiters-requires c = record {

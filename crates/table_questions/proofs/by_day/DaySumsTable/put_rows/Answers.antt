@@ -4,7 +4,7 @@ use Rattle.seat_tables.specs.Sheets.{ArePut}
 use Rattle.seat_tables.proofs.Putting.{put_none}
 use Rattle.table_questions.specs.SumRows.{day_names, sums_of_day}
 use Rattle.table_questions.proofs.Days.{day_more, days_whole}
-use Rattle.table_questions.proofs.by_day.put_days.Goals as goal
+use Rattle.table_questions.proofs.by_day.DaySumsTable.put_rows.Goals as goal
 
 pub numbered-requires : goal.numbered-requires
 numbered-requires c =
@@ -15,7 +15,7 @@ loop-i-init c = record { rows = put_none day_names c.args.sheet.now c.requires.r
 
 pub loop-i-preserved : goal.loop-i-preserved
 loop-i-preserved c =
-    let rows = sums_of_day c.args.asked.now (state_now c.args.core.now) c.args.flights.now in
+    let rows = sums_of_day c.args.self.now.loads (state_now c.args.core.now) c.args.flights.now in
     record {
       rows =
           day_more day_names rows c.loop-i.i c.days_from-first.result c.args.sheet.now c.loop-i.sheet c.put_day.new.sheet c.loop-i.invariant.rows
@@ -25,6 +25,6 @@ loop-i-preserved c =
 
 pub returns : goal.returns
 returns c =
-    days_whole (sums_of_day c.args.asked.now (state_now c.args.core.now) c.args.flights.now) c.loop-i.i c.saturating_sub-count.result c.days_from-first.result c.latest_of.result
+    days_whole (sums_of_day c.args.self.now.loads (state_now c.args.core.now) c.args.flights.now) c.loop-i.i c.saturating_sub-count.result c.days_from-first.result c.latest_of.result
     c.args.flights.now c.args.sheet.now c.loop-i.sheet c.loop-i.invariant.rows c.loop-i.invariant.within c.loop-i-test.false c.saturating_sub-count.ensures
     c.latest_of.ensures.value c.days_from-first.ensures.value

@@ -4,7 +4,7 @@ use Rattle.seat_rules.specs.Inventory.{state_now}
 use Rattle.seat_tables.specs.Rows.{rows_from}
 use Rattle.seat_tables.specs.Sheets.{ArePut}
 use Rattle.table_questions.specs.LoadRows.{load_names, flight_rows}
-use Rattle.table_questions.proofs.loads.put_flights.Given as goal
+use Rattle.table_questions.proofs.loads.LoadTableTable.put_rows.Given as goal
 
 abbrev pub invariant-loop-index : goal.invariant-loop-index
-invariant-loop-index l = ArePut load_names (rows_from (flight_rows l.asked (state_now l.core)) 0 (take l.index l.flights)) l.initial.sheet l.sheet
+invariant-loop-index l = ArePut load_names (rows_from (flight_rows l.self.loads (state_now l.core)) 0 (take l.index l.flights)) l.initial.sheet l.sheet
