@@ -1,11 +1,10 @@
 //! The question of pickup: what the lines behind older ones made of each class of each flight that is kept, or the sums of that, and the sums of all.
 //! It knows no table of sums, and leaves every number to the crates below.
-ghost use Rattle.std.specs.Prelude.{◌≡◌, ◌≢◌, ◌≤◌, ◌∷◌, ◌++◌, [], IfErr, IfOk, OnOk, length, map};
+ghost use Rattle.std.specs.Prelude.{◌≡◌, ◌≤◌, ◌++◌, IfOk, OnOk, length, map};
 ghost use Rattle.std.specs.List.{sum_by};
-ghost use Rattle.seat_desk.specs.AuditDesk.{most_journal_bytes, most_lines};
+ghost use Rattle.seat_desk.specs.AuditDesk.{most_lines};
 ghost use Rattle.seat_tables.specs.Rows.{IsTable, rows_from};
 ghost use Rattle.seat_tables.specs.Sheets.{ArePut, IsReady};
-ghost use Rattle.seat_pickup.specs.Older.{past_lines};
 ghost use Rattle.seat_pickup.specs.Pickups.{moved_behind, pickups_of};
 ghost use Rattle.pickup_questions.specs.Groups.{move_of};
 ghost use Rattle.pickup_questions.specs.PickupRows.{IsPickupOver, IsPickupRefused, IsPickupText, names_by, pickup_names, pickup_row, rows_by, rows_of_pickup, sum_text, sums_part, sums_text};
@@ -20,7 +19,6 @@ use airline_base::Memory;
 use seat_core::Core;
 use seat_desk::{DeskFault, Loaded, Question, put, put_number, replayed_in_parts};
 use seat_lists::Designator;
-use seat_nesting::Grid;
 use seat_pickup::{Past, Pickup, past_of, pickups};
 use seat_tables::{Cell, Form, Sheet, put_row};
 use ssim_flights::Flights;
@@ -61,6 +59,7 @@ impl<'a> Question for PickupOf<'a> {
 
     ghost refuses = { λ asked grid fault journal. IsPickupRefused asked.past grid fault journal };
 
+    #[tactic(auto, using(crate::proofs::PickedUp::over_replay, crate::proofs::PickedUp::unlawful, crate::proofs::PickedUp::parted))]
     fn text<R: Threads + Sync>(
         &self,
         rt: &R,
@@ -74,30 +73,12 @@ impl<'a> Question for PickupOf<'a> {
             grid,
         } = loaded;
         drop(rows);
-        picked_up(rt, alloc, &flights, grid, journal, self)
-    }
-}
-
-/// What was picked up, if the bytes are a legal history over these limits that begins with what stands ahead.
-#[tactic(auto, using(crate::proofs::PickedUp::over_replay, crate::proofs::PickedUp::unlawful, crate::proofs::PickedUp::parted))]
-fn picked_up<R: Threads + Sync>(
-    rt: &R,
-    alloc: Global,
-    flights: &Flights,
-    grid: Grid,
-    bytes: Vec<u8>,
-    asked: &PickupOf<'_>,
-) -> Result<Vec<u8>, DeskFault>
-    requires size { length bytes.items ≤ most_journal_bytes }
-    ensures ok { IfOk result (λ text. IsPickupOver asked.now flights.now grid bytes.items text.items) }
-    ensures fault { IfErr result (λ f. f ≢ DeskFault.Memory → IsPickupRefused asked.now.past grid f bytes.items) }
-    ensures kind { IfErr result (λ f. (f ≢ DeskFault.Device) × (f ≢ DeskFault.TooLarge)) }
-{
-    let core = replayed_in_parts(rt, alloc, grid, bytes)?;
-    let lines = past_of(&asked.past, core.journal())?;
-    match written(alloc, flights, &core, lines, asked) {
-        Ok(text) => Ok(text),
-        Err(_) => Err(DeskFault::Memory),
+        let core = replayed_in_parts(rt, alloc, grid, journal)?;
+        let lines = past_of(&self.past, core.journal())?;
+        match written(alloc, &flights, &core, lines, self) {
+            Ok(text) => Ok(text),
+            Err(_) => Err(DeskFault::Memory),
+        }
     }
 }
 
