@@ -1,10 +1,9 @@
 //! `avs`: what a partner is told of each segment, or of those whose status changed behind older lines.
 //! It knows which messages are told, and neither what one is nor how it reads.
 ghost use Rattle.std.specs.Prelude.{◌≡◌, ◌≢◌, ◌≤◌, IfErr, IfOk, IfSome, length, take, Some};
-ghost use Rattle.seat_desk.specs.AuditDesk.{IsUnlawful, most_journal_bytes, most_lines};
+ghost use Rattle.seat_desk.specs.AuditDesk.{most_lines};
 ghost use Rattle.seat_desk.specs.FlightsDesk.{IsText};
 ghost use Rattle.seat_desk.specs.Loading.{IsGridOf};
-ghost use Rattle.seat_pickup.specs.Older.{past_lines};
 ghost use Rattle.seat_availability.specs.Answers.{IsAvailabilityAfter, IsAvailabilityRefused, IsBehind, IsNotBehind, told};
 ghost use Rattle.seat_availability.specs.Lines.{IsMessageLine};
 
@@ -15,7 +14,6 @@ use airline_base::Memory;
 use seat_core::Core;
 use seat_desk::{DeskFault, Loaded, MOST_LINES, Question, replayed_in_parts};
 use seat_journal::Entry;
-use seat_nesting::Grid;
 use seat_pickup::{Past, past_of};
 use seat_replay::replay_entries;
 use ssim_flights::{Flights, Served};
@@ -39,7 +37,7 @@ impl<'a> Question for AvailabilityOf<'a> {
 
     ghost refuses = { λ asked grid fault journal. IsAvailabilityRefused asked.past grid fault journal };
 
-    #[tactic(auto, using(seat_desk::proofs::Grounds::grid_of_rows))]
+    #[tactic(auto, using(seat_desk::proofs::Grounds::grid_of_rows, seat_desk::proofs::After::grid_kept, crate::proofs::Answering::behind_within, crate::proofs::Answering::after_replay, crate::proofs::Answering::unlawful, crate::proofs::Answering::parted))]
     fn text<R: Threads + Sync>(
         &self,
         rt: &R,
@@ -53,31 +51,12 @@ impl<'a> Question for AvailabilityOf<'a> {
             grid,
         } = loaded;
         drop(rows);
-        told_after(rt, alloc, &flights, grid, journal, self)
-    }
-}
-
-/// What is told, if the bytes are a legal history over these limits that begins with what stands ahead.
-#[tactic(auto, using(seat_desk::proofs::After::grid_kept, crate::proofs::Answering::behind_within, crate::proofs::Answering::after_replay, crate::proofs::Answering::unlawful, crate::proofs::Answering::parted))]
-fn told_after<R: Threads + Sync>(
-    rt: &R,
-    alloc: Global,
-    flights: &Flights,
-    grid: Grid,
-    bytes: Vec<u8>,
-    asked: &AvailabilityOf<'_>,
-) -> Result<Vec<u8>, DeskFault>
-    requires size { length bytes.items ≤ most_journal_bytes }
-    requires grid { IsGridOf flights.now grid }
-    ensures ok { IfOk result (λ text. IsAvailabilityAfter asked.now flights.now grid bytes.items text.items) }
-    ensures fault { IfErr result (λ f. f ≢ DeskFault.Memory → IsAvailabilityRefused asked.now.past grid f bytes.items) }
-    ensures kind { IfErr result (λ f. (f ≢ DeskFault.Device) × (f ≢ DeskFault.TooLarge)) }
-{
-    let core = replayed_in_parts(rt, alloc, grid, bytes)?;
-    let behind = lines_behind(&asked.past, core.journal())?;
-    match text_of(alloc, flights, &core, behind, &asked.asked) {
-        Ok(text) => Ok(text),
-        Err(_) => Err(DeskFault::Memory),
+        let core = replayed_in_parts(rt, alloc, grid, journal)?;
+        let behind = lines_behind(&self.past, core.journal())?;
+        match text_of(alloc, &flights, &core, behind, &self.asked) {
+            Ok(text) => Ok(text),
+            Err(_) => Err(DeskFault::Memory),
+        }
     }
 }
 
