@@ -5,37 +5,18 @@ use Rattle.std.proofs.lemmas.List.{length-append}
 use Rattle.std.proofs.lemmas.Option.{slice_get_cases}
 use Rattle.airimp_lines.specs.declared.requests.Request.{Request}
 use Rattle.airimp_lines.specs.declared.segment.Segment.{Segment}
-use Rattle.airline_base.specs.declared.place.Place.{Place}
-use Rattle.ssim_flights.specs.declared.flight.DatedLeg.{DatedLeg}
 use Rattle.ssim_flights.specs.declared.flight.Flight.{Flight as Flown}
 use Rattle.seat_journal.specs.declared.entry.Advice.{Advice}
 use Rattle.seat_journal.specs.declared.entry.Command.{Command}
 use Rattle.seat_journal.specs.declared.entry.Entry.{Entry}
 use Rattle.seat_journal.specs.declared.entry.Work.{Work}
 use Rattle.seat_journal.specs.declared.entry.Work.TheVariants.{Seats, Limit, Sale}
-use Rattle.desk_telling.specs.Segments as telling
+use Rattle.desk_telling.specs.Segments.{segment_of}
 use Rattle.desk_telling.specs.Telling.{line_numbered}
 use Rattle.seat_replies.specs.Answering.{IsBooked, IsRequested}
-use Rattle.seat_replies.specs.Going as going
 use Rattle.seat_tables.specs.Rows.{rows_from}
 use Rattle.seat_tables.specs.declared.cell.Cell.TheVariants.{Nothing, Word}
 use Rattle.reply_tables.specs.ReplyRows.{LinesHaveRows, advice_row, advice_rows, asked_row, asked_segment, confirmed_by, confirmed_in, row_on, rows_in, segment_row}
-
--- ---- the segment of a booking, by both definitions
-
-same_between : (c : Command) (flight : Flown) (first last : Option DatedLeg)
-    → going.segment_between c flight first last ≡ telling.segment_between c flight first last
-same_between c flight (Some first) (Some last) = refl
-same_between c flight (Some first) None = refl
-same_between c flight None last = refl
-
-same_at : (c : Command) (place : Place) (flight : Option Flown) → going.segment_at c place flight ≡ telling.segment_at c place flight
-same_at c place (Some flight) = same_between c flight (slice_get flight.legs place.from) (slice_get flight.legs place.to)
-same_at c place None = refl
-
-same_on : (flights : List Flown) (c : Command) (place : Option Place) → going.segment_on flights c place ≡ telling.segment_on flights c place
-same_on flights c (Some place) = same_at c place (slice_get flights place.flight)
-same_on flights c None = refl
 
 -- ---- rows
 
@@ -48,7 +29,7 @@ advice_has_row : (flights : List Flown) (history : List Entry) (e : Entry) (k : 
 advice_has_row flights history e k a b =
     let row : advice_row flights history e a ≡ Some (segment_row e b.command.locator b.segment (codes "KL") a.seats Nothing) =
     ap (confirmed_in flights e a) (numbered history a.number b.within.0 ∙ b.at) ∙ ap (confirmed_by flights e a) b.work_is
-    ∙ ap (λ (o : Option Segment). row_on e b.command.locator o (codes "KL") a.seats Nothing) (sym (same_on flights b.command b.command.place) ∙ b.flown) in
+    ∙ ap (λ (o : Option Segment). row_on e b.command.locator o (codes "KL") a.seats Nothing) b.flown in
     ap (λ o. length (rows_in o)) row
 
 advices_have_rows : (flights : List Flown) (history : List Entry) (e : Entry) (k : ℕ) (advices : List Advice)
@@ -72,7 +53,7 @@ there requests place low none = ⊎_elim
 
 asked_has_row : (flights : List Flown) (requests : List Request) (place : ℕ) (e : Entry) (work : Work) → IsRequested requests place work
     → length (rows_in (asked_row flights requests place e work)) ≡ 1
-asked_has_row flights requests place e (Seats c) low = of (telling.segment_of flights c) (slice_get requests place) (there requests place low) where
+asked_has_row flights requests place e (Seats c) low = of (segment_of flights c) (slice_get requests place) (there requests place low) where
   of : (s : Option Segment) (r : Option Request) → (r ≡ None → ⊥)
       → length (rows_in (row_on e c.locator (asked_segment s r) c.code c.seats (Word e.reply))) ≡ 1
   of (Some s) r some = refl

@@ -9,6 +9,7 @@ use Rattle.seat_journal.specs.declared.entry.Control.{Control}
 use Rattle.seat_journal.specs.declared.entry.Control.TheVariants.{ToLimit, ToSale}
 use Rattle.seat_journal.specs.Controls.{set_by}
 use Rattle.seat_journal.specs.declared.entry.Work.TheVariants.{Limit, Sale}
+use Rattle.desk_telling.specs.Segments.{segment_at, segment_between, segment_from, segment_of, segment_on}
 use Rattle.seat_limits.specs.Authorised.{authorised_legs}
 use Rattle.seat_nesting.specs.Nesting.{Steps, legs_of}
 use Rattle.seat_rules.proofs.Own.{own_append}
@@ -16,7 +17,7 @@ use Rattle.seat_desk.specs.FlightsDesk.{IsText}
 use Rattle.seat_desk.specs.Loading.{IsGridOf}
 use Rattle.seat_replies.specs.declared.past.Past.{Past}
 use Rattle.seat_replies.specs.Answering.{AreAllAnswerable, AreAnswerable, AreBooked, IsRequested, IsBooked}
-use Rattle.seat_replies.specs.Going.{past_of, segment_at, segment_between, segment_from, segment_of, segment_on}
+use Rattle.seat_replies.specs.Going.{past_of}
 use Rattle.seat_replies.specs.RunDesk.{AreReplies, AreSessions, IsReplied, requests_of, works_of}
 use Rattle.seat_replies.proofs.Advised.{AreAdvised, IsPlaced, legal_is_advised}
 use Rattle.seat_replies.proofs.Going.{added_lines, idle_at, over_count, lines_at, sessions_count}

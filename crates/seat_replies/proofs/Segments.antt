@@ -7,7 +7,7 @@ use Rattle.std.specs.Option.{option_eq}
 use Rattle.ssim_flights.specs.Places.{ends_from, places, places_from, same_wanted, wish}
 use Rattle.ssim_flights.specs.declared.flight.Flight.{Flight as Flown}
 use Rattle.ssim_flights.specs.declared.flight.Wanted.{Wanted}
-use Rattle.seat_replies.specs.Going.{segment_at, segment_between, segment_from, segment_of, segment_on}
+use Rattle.desk_telling.specs.Segments.{segment_at, segment_between, segment_from, segment_of, segment_on}
 use Rattle.seat_replies.specs.Requests.{command_of, wanted_of}
 use Rattle.seat_replies.specs.Segments.{RequestsAreFlown}
 use Rattle.seat_replies.specs.declared.replies.Answered.{Answered}

@@ -14,7 +14,7 @@ use Rattle.seat_limits.proofs.RowIndexing.{same_letter}
 use Rattle.seat_rules.proofs.History.Faults.{nat_same}
 use Rattle.seat_rules.proofs.Step.Apart.{letters_same}
 use Rattle.seat_journal.specs.declared.entry.SaleChange.{SaleChange}
-use Rattle.seat_replies.specs.Going.{segment_of, segment_on}
+use Rattle.desk_telling.specs.Segments.{segment_of, segment_on}
 use Rattle.seat_replies.specs.Requests.{command_of, wanted_of}
 use Rattle.seat_replies.specs.VeryRequest.{Agree, CommandsAreVeryRequests, IsAskedAs, IsOnDate, IsPlacedAs, IsSameDate, IsSameFlight, IsVeryRequest, same_asked, same_named, same_sale}
 use Rattle.seat_replies.proofs.Segments.{segments_are_flown}

@@ -8,7 +8,7 @@ use Rattle.seat_journal.specs.declared.entry.Command.{Command}
 use Rattle.seat_journal.specs.declared.entry.Entry.{Entry}
 use Rattle.seat_journal.specs.declared.entry.Work.{Work}
 use Rattle.seat_journal.specs.declared.entry.Work.TheVariants.{Seats, Limit, Sale}
-use Rattle.seat_replies.specs.Going.{segment_of}
+use Rattle.desk_telling.specs.Segments.{segment_of}
 use Rattle.seat_replies.specs.RunDesk.{requests_of}
 
 -- seats are asked by the request at this place; what the manager sets has none

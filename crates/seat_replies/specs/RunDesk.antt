@@ -16,6 +16,7 @@ use Rattle.seat_journal.specs.declared.entry.Entry.{Entry}
 use Rattle.seat_journal.specs.declared.entry.SaleChange.{SaleChange}
 use Rattle.seat_journal.specs.declared.entry.Work.{Work}
 use Rattle.seat_journal.specs.declared.entry.Work.TheVariants.{Seats, Limit, Sale}
+use Rattle.desk_telling.specs.Segments.{segment_of}
 use Rattle.seat_rules.specs.Journal.{calls_of}
 use Rattle.seat_rules.specs.Prefixes.{Begins}
 use Rattle.seat_rules.specs.Totals.{totals_of}
@@ -28,7 +29,7 @@ use Rattle.seat_desk.specs.Loading.{Bytes, IsLoaded, IsRefusedLoad}
 use Rattle.seat_desk.specs.declared.inputs.Inputs.{Inputs}
 use Rattle.seat_replies.specs.Asked.{IsAsked, OfThree}
 use Rattle.seat_replies.specs.Changes.{IsUnchanged}
-use Rattle.seat_replies.specs.Going.{IsPast, behind, lists_over, past_of, segment_of}
+use Rattle.seat_replies.specs.Going.{IsPast, behind, lists_over, past_of}
 use Rattle.seat_replies.specs.Requests.{AreScripts, IsRefusedAmong, commands_of}
 use Rattle.seat_replies.specs.declared.replies.Answered.{Answered}
 use Rattle.seat_desk.specs.declared.fault.DeskFault.{DeskFault}

@@ -13,7 +13,7 @@ use Rattle.seat_journal.specs.declared.entry.Command.{Command}
 use Rattle.seat_journal.specs.declared.entry.SaleChange.{SaleChange}
 use Rattle.seat_journal.specs.declared.entry.Work.{Work}
 use Rattle.seat_journal.specs.declared.entry.Work.TheVariants.{Seats, Limit, Sale}
-use Rattle.seat_replies.specs.Going.{segment_on}
+use Rattle.desk_telling.specs.Segments.{segment_on}
 use Rattle.seat_replies.specs.Requests.{command_of}
 
 -- the day has this date, in some year

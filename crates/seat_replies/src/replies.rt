@@ -1,17 +1,17 @@
 //! The reply to a line of a run, whose requests are answered by segment lines, and its advices.
-ghost use Rattle.std.specs.Prelude.{◌≡◌, ◌<◌, ◌++◌, Some, OnOk, length};
+ghost use Rattle.std.specs.Prelude.{◌≡◌, ◌<◌, ◌++◌, OnOk, length};
 ghost use Rattle.airimp_lines.specs.Grammar.{IsPlainLine, reply_of};
 ghost use Rattle.seat_journal.specs.Text.{scope_letter};
 ghost use Rattle.seat_desk.specs.FlightsDesk.{IsPut};
 ghost use Rattle.seat_replies.specs.Answering.{AreBooked, IsAnswerable, IsRequested, IsBehind, IsBooked};
-ghost use Rattle.seat_replies.specs.Going.{segment_at, segment_of};
 ghost use Rattle.seat_replies.specs.RunDesk.{IsAdviceLine, IsAnswer, IsLineReply, IsReply, IsSeatsReply, at_any, booked_by, change_head, change_reply, leg_text, limit_text, line_head, of_command, of_request, of_work, reply_head, sale_reply, sale_text, sale_word};
 
 use airimp_lines::{Request, Segment, reply_text};
-use airline_base::{Class, Code, Locator, Place};
+use airline_base::{Class, Code, Locator};
+use desk_telling::segment_of;
 use seat_desk::{put, put_number};
 use seat_journal::{Advice, Change, Command, Entry, SaleChange, Work};
-use ssim_flights::{Flight, Flights};
+use ssim_flights::Flights;
 use std::alloc::{AllocError, Global};
 
 /// Whose seats a reply is for, and which.
@@ -273,35 +273,5 @@ fn of_command(flights: &Flights, command: &Command) -> Option<Answered>
     Some(Answered {
         locator: command.locator,
         segment,
-    })
-}
-
-/// The segment that a command asks for, on the flight of its place.
-pub(crate) fn segment_of(flights: &Flights, command: &Command) -> Option<Segment>
-    ensures { result ≡ segment_of flights.now command.now }
-{
-    let place = command.place?;
-    if place.flight >= flights.len() {
-        return None;
-    }
-    segment_on(flights.flight(place.flight), place, command)
-}
-
-fn segment_on(flight: &Flight, place: Place, command: &Command) -> Option<Segment>
-    ensures { result ≡ segment_at command.now place (Some flight.now) }
-{
-    let legs = flight.legs.as_slice();
-    let first = legs.get(usize::from(place.from))?;
-    let last = legs.get(usize::from(place.to))?;
-    Some(Segment {
-        airline: flight.airline,
-        number: flight.number,
-        suffix: flight.suffix,
-        class: command.class,
-        day: first.day,
-        board: first.board,
-        off: last.off,
-        code: command.code,
-        seats: command.seats,
     })
 }

@@ -2,9 +2,9 @@
 ghost use Rattle.std.specs.Prelude.{◌≡◌, ◌↔◌, IsTrue, Some, slice_get};
 ghost use Rattle.seat_replies.specs.VeryRequest.{Agree, IsAskedAs, IsPlacedAs, IsSameDate, IsSameFlight, IsVeryRequest, same_asked, same_named};
 
-use crate::replies::segment_of;
 use airimp_lines::{Request, Segment};
 use airline_base::Day;
+use desk_telling::segment_of;
 use seat_journal::{Command, Work};
 use ssim_flights::Flights;
 

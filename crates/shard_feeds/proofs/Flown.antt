@@ -23,7 +23,7 @@ use Rattle.seat_journal.specs.declared.entry.Work.{Work}
 use Rattle.seat_rules.proofs.History.Faults.{nat_same}
 use Rattle.seat_rules.specs.Flights.{flight_of}
 use Rattle.seat_replies.specs.Changes.{is_named, on_flights, on_leg, on_legs, on_place, set_between, some_of, wanted_by}
-use Rattle.seat_replies.specs.Going.{segment_at, segment_between, segment_from, segment_on}
+use Rattle.desk_telling.specs.Segments.{segment_at, segment_between, segment_from, segment_on}
 use Rattle.seat_replies.specs.Requests.{command_of, wanted_of}
 use Rattle.seat_replies.proofs.Segments.{segments_are_flown}
 use Rattle.flight_routes.specs.Shards.{name_text, shard_of}
