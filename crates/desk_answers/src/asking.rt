@@ -14,12 +14,11 @@ ghost use Rattle.desk_answers.specs.declared.heard.HearFault.TheVariants.{Memory
 
 use crate::faults::full_line;
 use crate::heard::HearFault;
-use crate::placing::command;
 use airimp_lines::Request;
 use airline_base::Memory;
 use seat_disk::Tape;
 use seat_journal::{Entry, Work};
-use seat_replies::put_answer;
+use seat_replies::{command_of, put_answer};
 use seat_serving::{Asked, ServeFault, Serving};
 use ssim_flights::{Flights, Served};
 use std::alloc::Global;
@@ -75,7 +74,7 @@ pub fn asked_by(served: &Served<'_>, session: u8, wish: &Request) -> Asked
 {
     Asked {
         session,
-        work: Work::Seats(command(served, wish)),
+        work: Work::Seats(command_of(served, wish)),
     }
 }
 

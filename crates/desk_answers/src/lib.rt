@@ -12,7 +12,6 @@ pub mod laws;
 mod look_parts;
 mod looking;
 mod open_host;
-mod placing;
 mod ready;
 mod seats;
 

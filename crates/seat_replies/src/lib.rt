@@ -3,12 +3,14 @@
 //! It knows no file, no seal and no order in which texts are read.
 #![tactic(auto)]
 
+mod commands;
 mod laws;
 mod past;
 mod replies;
 mod row_changes;
 mod very_request;
 
+pub use commands::command_of;
 pub use laws::{commands_are_very_requests, requests_are_flown};
 pub use past::Past;
 pub use replies::{Answered, put_answer};

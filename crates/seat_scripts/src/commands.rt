@@ -1,13 +1,14 @@
 //! What requests ask of the inventory.
 ghost use Rattle.std.specs.Prelude.{◌≡◌, ◌-◌, ◌++◌, IfOk, OnOk, length, map};
 ghost use Rattle.seat_replies.specs.Going.{idle, lists_over};
-ghost use Rattle.seat_replies.specs.Requests.{command_of, commands_of, wanted_of};
+ghost use Rattle.seat_replies.specs.Requests.{commands_of};
 
 use crate::past::highest;
-use airimp_lines::{Request, Requests, Segment};
+use airimp_lines::{Request, Requests};
 use seat_core::Core;
-use seat_journal::{Command, CommandList};
-use ssim_flights::{Flights, Served, Wanted};
+use seat_journal::CommandList;
+use seat_replies::command_of;
+use ssim_flights::{Flights, Served};
 use std::alloc::{AllocError, Global};
 
 /// The commands of each script, in the order of the scripts, and none for each further session as far as one that has a line.
@@ -64,33 +65,7 @@ fn commands(
 {
     let mut commands = Vec::with_capacity(alloc, requests.len())?;
     for request in requests {
-        commands.push(command(served, request))?;
+        commands.push(command_of(served, request))?;
     }
     Ok(CommandList::from_vec(commands))
-}
-
-fn command(served: &Served<'_>, request: &Request) -> Command
-    ensures { result ≡ command_of served.now request.now }
-{
-    let segment = &request.segment;
-    Command {
-        locator: request.locator,
-        place: served.find(&wanted(segment)),
-        class: segment.class,
-        code: segment.code,
-        seats: segment.seats,
-    }
-}
-
-fn wanted(segment: &Segment) -> Wanted
-    ensures { result ≡ wanted_of segment.now }
-{
-    Wanted {
-        airline: segment.airline,
-        number: segment.number,
-        suffix: segment.suffix,
-        day: segment.day,
-        board: segment.board,
-        off: segment.off,
-    }
 }

@@ -7,9 +7,9 @@ loop-request-init c = c.in_ok-commands.ensures.items
 
 pub loop-request-preserved : goal.loop-request-preserved
 loop-request-preserved c =
-    command_more c.args.served.now c.args.requests.now c.loop-request.request-index c.request-item.result c.command.result
+    command_more c.args.served.now c.args.requests.now c.loop-request.request-index c.request-item.result c.command_of.result
     c.loop-request.commands.items c.push.new.self.items c.loop-request.invariant c.loop-request-test.true c.request-item.is
-    c.command.ensures c.in_ok-push.ensures.items
+    c.command_of.ensures c.in_ok-push.ensures.items
 
 pub returns : goal.returns
 returns c =

@@ -6,20 +6,21 @@ use airimp_lines::{Request, Segment};
 use seat_journal::Command;
 use ssim_flights::{Served, Wanted};
 
-pub(crate) fn command(served: &Served<'_>, wish: &Request) -> Command
-    ensures { result ≡ command_of served.now wish.now }
+/// The command that a request asks for; its place is none where no flight serves it.
+pub fn command_of(served: &Served<'_>, request: &Request) -> Command
+    ensures { result ≡ command_of served.now request.now }
 {
-    let segment = &wish.segment;
+    let segment = &request.segment;
     Command {
-        locator: wish.locator,
-        place: served.find(&wanted(segment)),
+        locator: request.locator,
+        place: served.find(&wanted_of(segment)),
         class: segment.class,
         code: segment.code,
         seats: segment.seats,
     }
 }
 
-fn wanted(segment: &Segment) -> Wanted
+fn wanted_of(segment: &Segment) -> Wanted
     ensures { result ≡ wanted_of segment.now }
 {
     Wanted {
