@@ -28,8 +28,16 @@ struct Ear {
 impl Ear {
     fn hear(&mut self, bytes: &[u8]) {
         for byte in bytes {
+            if self.has_heard_all() {
+                return;
+            }
             self.hear_one(*byte);
         }
+    }
+
+    /// Whether no further byte can change what is told.
+    fn has_heard_all(&self) -> bool {
+        self.has_request && self.has_reply && self.has_flight
     }
 
     fn hear_one(&mut self, byte: u8) {

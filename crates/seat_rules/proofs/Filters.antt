@@ -1,5 +1,5 @@
 -- The elements of a list that pass a test.
-use Rattle.std.proofs.Common.{◌≡◌, ℕ, ◌+◌, ◌<◌, ◌≤◌, Bool, true, false, List, [], ◌∷◌, length, filter, arith, refl}
+use Rattle.std.proofs.Common.{◌≡◌, ℕ, ◌+◌, ◌<◌, ◌≤◌, Bool, true, false, ◌&&◌, List, [], ◌∷◌, length, filter, arith, refl}
 use Rattle.seat_rules.proofs.Common.{AllByRecursion, sum_by, Booking}
 use Rattle.std.proofs.lemmas.List.Sums.{sum_by-cons, length-filter, count_by-le-length}
 use Rattle.seat_rules.specs.Applying.{IsOrdered}
@@ -59,3 +59,14 @@ apart_pass p (b ∷ bs) o = cases (p b) refl (apart_pass p bs o.1) where
   cases : (t : Bool) → p b ≡ t → IsApart (filter p bs) → IsApart (filter p (b ∷ bs))
   cases true e rest = rw e (all_pass p (Differs b) bs o.0, rest)
   cases false e rest = rw e rest
+
+-- three tests in the other order
+pub turned : (a b c : Bool) → (a && b && c) ≡ (c && b && a)
+turned true true true = refl
+turned true true false = refl
+turned true false true = refl
+turned true false false = refl
+turned false true true = refl
+turned false true false = refl
+turned false false true = refl
+turned false false false = refl

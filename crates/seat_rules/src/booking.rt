@@ -24,11 +24,18 @@ pub struct Booking {
 }
 
 impl Booking {
-    /// Whether it has this locator, place and class.
+    /// Whether it has this locator, place and class. The locator is compared last: six letters take longer, and most differ ahead of it.
+    #[tactic(auto, using(crate::proofs::Filters::turned))]
     pub fn is_for(&self, locator: Locator, place: Place, class: Class) -> bool
         ensures { result ≡ is_for locator place class self.now }
     {
-        self.locator == locator && self.place == place && self.class == class
+        if self.class != class {
+            return false;
+        }
+        if self.place != place {
+            return false;
+        }
+        self.locator == locator
     }
 
     /// The seats that a cancellation of so many releases.
