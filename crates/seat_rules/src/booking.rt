@@ -12,14 +12,14 @@ pub enum Status {
     Waiting,
 }
 
-/// A live booking, under the number of the line that made it.
+/// A live booking, under the number of the line that made it. In this order its fields leave the least room between them.
 #[derive(Clone, Copy)]
 pub struct Booking {
     pub number: u32,
-    pub locator: Locator,
     pub place: Place,
-    pub class: Class,
+    pub locator: Locator,
     pub seats: u16,
+    pub class: Class,
     pub status: Status,
 }
 
