@@ -83,6 +83,13 @@ impl<K: Hosting> Party<K> {
         self.viewer.look(at)
     }
 
+    /// Makes memory for the receipts of so many calls, where it is to be had: else it is asked for call by call.
+    pub fn expect(&mut self, calls: usize)
+        ensures { self.new ≡ self.old }
+    {
+        let _ = self.receipts.reserve(calls);
+    }
+
     /// One that goes on from the lines that its viewer has seen. Its own among them are its receipts.
     #[tactic(auto, using(crate::proofs::Opening::seated_is))]
     pub fn seated(id: u8, stake: Stake<K>, viewer: Viewer, receipts: Vec<Receipt>) -> Party<K>

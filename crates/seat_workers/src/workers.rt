@@ -232,6 +232,7 @@ impl<K: Hosting, R: Wait, G: Gate> Workplace<'_, K, R, G> {
         ensures refused { IfErr result (λ f. IsRefused K.grid K.book K.cap f (map J.asks list.now) party.old
             party.new) }
     {
+        party.expect(list.len());
         if self.gate.takes_turns() {
             let mut turn = self.turns.come(self.rt);
             let answer = self.book_by_turns(&mut turn, list, party);
