@@ -5,7 +5,7 @@ ghost use Rattle.seat_rules.specs.Journal.{FitsCommand};
 use crate::files::{LEG, grid_of};
 use crate::meeting::Meeting;
 use airline_base::{Class, Code, Locator, Memory};
-use seat_host::{Host, Hosting, Parts, Session};
+use seat_host::{Host, Hosting, Parts, Session, Shows};
 use seat_journal::{Command, CommandList};
 use seat_nesting::Grid;
 use seat_workers::{no_faults, run_sessions};
@@ -115,7 +115,7 @@ fn overlap<R: Threads + Wait + Sync>(
     let Ok(lists) = lists_of(alloc, &grid, command) else {
         return None;
     };
-    let Ok(parts) = Parts::new(rt, alloc, grid, 2, 2) else {
+    let Ok(parts) = Parts::new(rt, alloc, grid, 2, 2, Shows::Rooms) else {
         return None;
     };
     let meeting = Meeting::new(is_mutual);

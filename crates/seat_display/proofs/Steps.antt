@@ -1,5 +1,6 @@
 -- Each step keeps the rule of what is shown.
-use Rattle.std.proofs.Common.{◌≡◌, ◌≢◌, ℕ, ◌+◌, ◌^◌, ◌<◌, List, [], ◌∷◌, ◌++◌, length, map, set, fold, true, false, true≢false, refl, ap, sym, subst, ◌∙◌, ⊎_elim, arith, append_assoc, length-append}
+use Rattle.std.proofs.Common.{◌≡◌, ◌≢◌, ℕ, ◌+◌, ◌^◌, ◌<◌, List, [], ◌∷◌, ◌++◌, Option, Some, None, length, map, set, fold, true, false, true≢false, refl, ap, sym, subst, ◌∙◌, ⊎_elim, arith, append_assoc, length-append}
+use Rattle.std.specs.Prelude.{option_map, is_some, IfSome}
 use Rattle.std.proofs.lemmas.List.{append-nil}
 use Rattle.std.proofs.lemmas.Bool.Decides.{nat_tests}
 use mathlib.Core.Option.{some}
@@ -7,12 +8,10 @@ use lib.ListN.{get_elem?}
 use Rattle.logbook.specs.Pages.{Book}
 use Rattle.crossbeam_utils.specs.Register.{Admits, Turns, TurnsAt, Forks, Merges}
 use Rattle.atomic_table.proofs.Lists.{at_set, at_snoc}
-use Rattle.airline_base.specs.declared.place.Place.{Place}
-use Rattle.seat_nesting.specs.Nesting.{Ladders, room}
+use Rattle.seat_nesting.specs.Nesting.{Ladders}
 use Rattle.seat_nesting.specs.Counting.{Counted, limits_of, table_of}
 use Rattle.seat_journal.specs.declared.entry.Entry.{Entry}
-use Rattle.seat_rules.specs.Sequential.{room_left}
-use Rattle.seat_rules.specs.Journal.{IsLegal, replay}
+use Rattle.seat_rules.specs.Journal.{IsLegal}
 use Rattle.seat_rules.proofs.History.Prefixes.{begins_longer}
 use Rattle.seat_rules.proofs.History.Legal.{legal_nil, legal_prefix}
 use Rattle.seat_rules.specs.Showing.{Standing, shown, standing_of, unsold}
@@ -21,7 +20,7 @@ use Rattle.seat_display.specs.declared.table.Table.{Table}
 use Rattle.seat_display.specs.declared.table.Op.{Op}
 use Rattle.seat_display.specs.declared.table.Op.TheVariants.{Line, Mark}
 use Rattle.seat_display.specs.declared.table.View.{View}
-use Rattle.seat_display.specs.Shown.{counters_of, tidied, left_by, counts_after, one_more, apply, entries_of, nobody, Leaves, IsEmptyTable, KnowsRight, Follows, Kept, Sees, Ready, informed}
+use Rattle.seat_display.specs.Shown.{counters_of, standing_in, tidied, left_by, counts_after, one_more, apply, entries_of, nobody, Leaves, IsEmptyTable, KnowsRight, Follows, Kept, Sees, Ready, informed}
 use Rattle.seat_rules.proofs.Counters.Shown.{lacks_replay, shown_is_held}
 use Rattle.seat_display.proofs.Tidy.{IsOnLadders, written, own}
 
@@ -100,39 +99,58 @@ left_on : (grid : Ladders) (journal : List Entry)
     → IsOnLadders (left_by grid journal).limits (left_by grid journal).seats
 left_on grid journal = record { none = lacks_replay grid journal }
 
--- the room in the counters that a history leaves
-pub room_shown : (x : Table) (grid : Ladders) (place : Place) (class : ℕ) → Leaves grid x
-    → room (limits_of x.counts) (table_of x.counts) place class ≡ room_left (replay grid x.seen.log) place class
-room_shown x grid place class h = ap (λ (s : Standing). room s.limits s.seats place class) h.standing
+-- counters that stand so, where there are any
+abbrev Stand : Option Counted → Standing → Type 0
+Stand counts s = IfSome counts (λ c. standing_of c ≡ s)
 
 next_if : (n : ℕ) → n + 1 < 2 ^ 32 → one_more n ≡ n + 1
 next_if n lt = grind (arith, nat_tests)
 
+-- the counters that a list leaves, where there are counters at all
+abbrev left_in : Option Counted → Ladders → List Entry → Option Counted
+left_in counts grid log = option_map (λ (c : Counted). counters_of (left_by grid log)) counts
+
+left_stand : (counts : Option Counted) (grid : Ladders) (log : List Entry)
+    → Stand (left_in counts grid log) (left_by grid log)
+left_stand None grid log = tt
+left_stand (Some c) grid log = written (left_by grid log) (left_on grid log)
+
+left_is : (counts : Option Counted) (grid : Ladders) (log : List Entry) → Stand counts (left_by grid log)
+    → option_map counters_of (standing_in counts) ≡ left_in counts grid log
+left_is None grid log h = refl
+left_is (Some c) grid log h = ap (λ (s : Standing). Some (counters_of s)) h
+
 -- the table, so written, whose counters are those that a list leaves
 abbrev pub counted : Ladders → Table → List Entry → Table
-counted grid t log = record { counts = counters_of (left_by grid log); lines = length log; seen = t.seen }
+counted grid t log = record {
+  opening = t.opening;
+  counts = option_map (λ (c : Counted). counters_of (left_by grid log)) t.counts;
+  lines = length log;
+  seen = t.seen;
+}
 
-table_is : (c d : Counted) (n m : ℕ) (t : Table) → c ≡ d → n ≡ m
-    → let x : Table = record { counts = c; lines = n; seen = t.seen } in let y : Table = record
-    { counts = d; lines = m; seen = t.seen } in x ≡ y
-table_is c d n m t p q i = record { counts = p i; lines = q i; seen = t.seen }
+table_is : (c d : Option Counted) (n m : ℕ) (t : Table) → c ≡ d → n ≡ m
+    → let x : Table = record { opening = t.opening; counts = c; lines = n; seen = t.seen } in let y : Table = record
+    { opening = t.opening; counts = d; lines = m; seen = t.seen } in x ≡ y
+table_is c d n m t p q i = record { opening = t.opening; counts = p i; lines = q i; seen = t.seen }
 
 -- a right table is the one that its history leaves
 counted_is : (grid : Ladders) (x : Table) → Leaves grid x → tidied x ≡ counted grid x x.seen.log
-counted_is grid x h = table_is _ _ _ _ x (ap counters_of h.standing) h.lines
+counted_is grid x h = table_is _ _ _ _ x (left_is x.counts grid x.seen.log h.standing) h.lines
 
 -- one entry more, where it is the next one
-counts_next : (grid : Ladders) (log : List Entry) (e : Entry) → IsLegal grid (log ++ e ∷ [])
-    → counts_after (counters_of (left_by grid log)) e ≡ counters_of (left_by grid (log ++ e ∷ []))
-counts_next grid log e legal =
-    ap (λ (s : Standing). counters_of (shown s e)) (written (left_by grid log) (left_on grid log)) ∙ ap counters_of (left_next grid log e legal)
+counts_next : (counts : Option Counted) (grid : Ladders) (log : List Entry) (e : Entry) → IsLegal grid (log ++ e ∷ [])
+    → counts_after (left_in counts grid log) e ≡ left_in counts grid (log ++ e ∷ [])
+counts_next None grid log e legal = refl
+counts_next (Some c) grid log e legal =
+    ap (λ (s : Standing). Some (counters_of (shown s e))) (written (left_by grid log) (left_on grid log)) ∙ ap (λ (s : Standing). Some (counters_of s)) (left_next grid log e legal)
 
 show_next : (grid : Ladders) (t : Table) (log : List Entry) (e : Entry) → IsLegal grid (log ++ e ∷ [])
     → length log + 1 < 2 ^ 32
     → apply (counted grid t log) (Line e) ≡ counted grid t (log ++ e ∷ [])
 show_next grid t log e legal short =
     let lines : one_more (length log) ≡ length (log ++ e ∷ []) = next_if (length log) short ∙ sym (omega (arith, length-append log (e ∷ []))) in
-    table_is _ _ _ _ t (counts_next grid log e legal) lines
+    table_is _ _ _ _ t (counts_next t.counts grid log e legal) lines
 
 -- the table of a legal history is what its entries leave, one after another
 shows : (grid : Ladders) (t : Table) (log es : List Entry) → IsLegal grid (log ++ es) → length (log ++ es) < 2 ^ 32
@@ -153,12 +171,32 @@ fold-snoc t (p ∷ ops) o = fold-snoc (apply t p) ops o
 
 -- ---- a table and its so written form
 
+stand_tidied : (counts : Option Counted) (s : Standing) → Stand (option_map counters_of (standing_in counts)) s
+    → Stand counts s
+stand_tidied None s h = h
+stand_tidied (Some c) s h = sym (own c) ∙ h
+
+stand_of_tidied : (counts : Option Counted) (s : Standing) → Stand counts s
+    → Stand (option_map counters_of (standing_in counts)) s
+stand_of_tidied None s h = h
+stand_of_tidied (Some c) s h = own c ∙ h
+
 -- it is right where the form is, and the other way round
 leaves_tidied : (grid : Ladders) (x : Table) → Leaves grid (tidied x) → Leaves grid x
-leaves_tidied grid x h = record { legal = h.legal; standing = sym (own x.counts) ∙ h.standing; lines = h.lines }
+leaves_tidied grid x h = record {
+  legal = h.legal;
+  opening = h.opening;
+  standing = stand_tidied x.counts (left_by grid x.seen.log) h.standing;
+  lines = h.lines;
+}
 
 leaves_of_tidied : (grid : Ladders) (x : Table) → Leaves grid x → Leaves grid (tidied x)
-leaves_of_tidied grid x h = record { legal = h.legal; standing = own x.counts ∙ h.standing; lines = h.lines }
+leaves_of_tidied grid x h = record {
+  legal = h.legal;
+  opening = h.opening;
+  standing = stand_of_tidied x.counts (left_by grid x.seen.log) h.standing;
+  lines = h.lines;
+}
 
 -- a table with this form
 leaves_as : (grid : Ladders) (x y : Table) → tidied x ≡ y → Leaves grid y → Leaves grid x
@@ -210,11 +248,13 @@ applied_all grid shown log ops lines more r m =
     ∙ ap (λ t. apply t m) (ap (λ l. fold apply (tidied shown) l) r.plain ∙ ap (λ t. fold apply t (map Line es)) is ∙ shows grid shown log es r.legal n)
 
 -- the table that is shown next: these counters, this count, and a history of all entries
-leaves_marked : (grid : Ladders) (all : List Entry) (y : Table) → IsLegal grid all
-    → y.counts ≡ counters_of (left_by grid all) → y.lines ≡ length all → y.seen.log ≡ all → Leaves grid y
-leaves_marked grid all y legal counts lines log = record {
+leaves_marked : (grid : Ladders) (all : List Entry) (x y : Table) → IsLegal grid all → y.opening ≡ grid
+    → y.counts ≡ left_in x.counts grid all → y.lines ≡ length all → y.seen.log ≡ all → Leaves grid y
+leaves_marked grid all x y legal opening counts lines log = record {
   legal = subst (IsLegal grid) (sym log) legal;
-  standing = ap standing_of counts ∙ written (left_by grid all) (left_on grid all) ∙ ap (left_by grid) (sym log);
+  opening = opening;
+  standing = subst (λ (l : List Entry). Stand y.counts (left_by grid l)) (sym log) (
+      subst (λ (c : Option Counted). Stand c (left_by grid all)) (sym counts) (left_stand x.counts grid all));
   lines = lines ∙ sym (ap length log);
 }
 
@@ -225,7 +265,7 @@ pub follows_marked : (grid : Ladders) (shown : Table) (log : List Entry) (ops : 
     → (x y : Table) → x ≡ shown → y ≡ apply (counted grid shown (log ++ entries_of ops)) (Mark u.seen) → Follows v x y
 follows_marked grid shown log ops lines more r v u knows same all book x y was is =
     let right : Leaves grid y =
-    leaves_marked grid (log ++ entries_of ops) y r.legal (ap (λ (t : Table). t.counts) is) (ap (λ (t : Table). t.lines) is) (ap (λ (t : Table). t.seen.log) is ∙ all) in
+    leaves_marked grid (log ++ entries_of ops) shown y r.legal (ap (λ (t : Table). t.opening) is ∙ r.leaves.opening) (ap (λ (t : Table). t.counts) is) (ap (λ (t : Table). t.lines) is) (ap (λ (t : Table). t.seen.log) is ∙ all) in
     record {
       leaves = λ other may old. subst (λ (g : Ladders). Leaves g y) (sym same ∙ may knows) right;
       book = ap (λ (t : Table). t.seen.book) is ∙ book ∙ sym (ap (λ (t : Table). t.seen.book) was);
@@ -266,37 +306,52 @@ ready_open shown grid book log ops h none plain =
 left_none : (grid : Ladders) (log : List Entry) → log ≡ [] → left_by grid log ≡ unsold grid
 left_none grid log none = ap (left_by grid) none
 
-pub empty_leaves : (x : Table) (grid : Ladders) (book : Book) → limits_of x.counts ≡ grid
-    → ((f l k : ℕ) → table_of x.counts f l k ≡ 0) → x.lines ≡ 0 → x.seen.log ≡ [] → x.seen.book ≡ book
+pub unsold_counts : (counts : Counted) (grid : Ladders) → limits_of counts ≡ grid
+    → ((f l k : ℕ) → table_of counts f l k ≡ 0) → standing_of counts ≡ unsold grid
+unsold_counts counts grid limits seats = λ i. record { limits = limits i; seats = λ f l k. seats f l k i }
+
+pub empty_leaves : (x : Table) (grid : Ladders) (book : Book) → x.opening ≡ grid
+    → IfSome x.counts (λ c. standing_of c ≡ unsold grid) → x.lines ≡ 0 → x.seen.log ≡ [] → x.seen.book ≡ book
     → IsEmptyTable x grid book
-empty_leaves x grid book limits seats lines none book_is = record {
-  limits = limits;
+empty_leaves x grid book opening stands lines none book_is = record {
   book_is = book_is;
   none = none;
   leaves = record {
     legal = subst (IsLegal grid) (sym none) (legal_nil grid);
-    standing = (λ i. record { limits = limits i; seats = λ f l k. seats f l k i }) ∙ sym (left_none grid x.seen.log none);
+    opening = opening;
+    standing = subst (λ (s : Standing). Stand x.counts s) (sym (left_none grid x.seen.log none)) stands;
     lines = lines ∙ sym (ap length none);
   };
 }
 
--- two of them with the same history have the same form
+alike_in : (one two : Option Counted) (s : Standing) → is_some one ≡ is_some two → Stand one s → Stand two s
+    → option_map counters_of (standing_in one) ≡ option_map counters_of (standing_in two)
+alike_in None None s both h k = refl
+alike_in None (Some d) s both h k = absurd (off both)
+alike_in (Some c) None s both h k = absurd (off (sym both))
+alike_in (Some c) (Some d) s both h k = ap (λ (t : Standing). Some (counters_of t)) (h ∙ sym k)
+
+-- two of them with the same history, both with counters or both without, have the same form
 pub empty_alike : (x y : Table) (grid : Ladders) (book : Book) → IsEmptyTable x grid book → IsEmptyTable y grid book
-    → x.seen ≡ y.seen → tidied x ≡ tidied y
-empty_alike x y grid book h k seen =
+    → x.seen ≡ y.seen → is_some x.counts ≡ is_some y.counts → tidied x ≡ tidied y
+empty_alike x y grid book h k seen both =
     let log : x.seen.log ≡ y.seen.log = h.none ∙ sym k.none in
-    let standing : standing_of x.counts ≡ standing_of y.counts = h.leaves.standing ∙ ap (left_by grid) log ∙ sym k.leaves.standing in
+    let opening : x.opening ≡ y.opening = h.leaves.opening ∙ sym k.leaves.opening in
+    let stands : Stand x.counts (left_by grid y.seen.log) =
+    subst (λ (l : List Entry). Stand x.counts (left_by grid l)) log h.leaves.standing in
+    let counts = alike_in x.counts y.counts (left_by grid y.seen.log) both stands k.leaves.standing in
     let lines : x.lines ≡ y.lines = h.leaves.lines ∙ ap length log ∙ sym k.leaves.lines in
-    λ i. record { counts = counters_of (standing i); lines = lines i; seen = seen i }
+    λ i. record { opening = opening i; counts = counts i; lines = lines i; seen = seen i }
 
 -- over whatever grid it is right, marks of its own history leave it so
 marked_leaves : (grid : Ladders) (x : Table) (u : View) → Leaves grid x → x.seen.log ≡ u.seen.log
-    → let y : Table = record { counts = (tidied x).counts; lines = x.lines; seen = u.seen } in Leaves grid y
+    → let y : Table = record { opening = x.opening; counts = (tidied x).counts; lines = x.lines; seen = u.seen } in Leaves grid y
 marked_leaves grid x u h log =
     let was = leaves_of_tidied grid x h in
     record {
       legal = subst (IsLegal grid) log was.legal;
-      standing = was.standing ∙ ap (left_by grid) log;
+      opening = was.opening;
+      standing = subst (λ (l : List Entry). Stand (tidied x).counts (left_by grid l)) log was.standing;
       lines = was.lines ∙ ap length log;
     }
 
@@ -304,7 +359,7 @@ marked_leaves grid x u h log =
 twice_marked : (x : Table) (u : View) (old ops : List Op) → old ≡ []
     → ops ≡ (old ++ Mark u.seen ∷ []) ++ Mark u.seen ∷ []
     → let y : Table =
-    record { counts = (tidied x).counts; lines = x.lines; seen = u.seen } in fold apply (tidied x) ops ≡ y
+    record { opening = x.opening; counts = (tidied x).counts; lines = x.lines; seen = u.seen } in fold apply (tidied x) ops ≡ y
 twice_marked x u old ops plain is = ap (fold apply (tidied x)) (is ∙ ap (λ (l : List Op). (l ++ Mark u.seen ∷ []) ++ Mark u.seen ∷ []) plain)
 
 pub warmed : (x : Table) (grid : Ladders) (book : Book) (u : View) (old ops : List Op) → IsEmptyTable x grid book
@@ -312,7 +367,6 @@ pub warmed : (x : Table) (grid : Ladders) (book : Book) (u : View) (old ops : Li
     → IsEmptyTable (fold apply (tidied x) ops) grid book
 warmed x grid book u old ops h book_is none plain is =
     subst (λ (t : Table). IsEmptyTable t grid book) (sym (twice_marked x u old ops plain is)) (record {
-      limits = ap (λ (s : Standing). s.limits) (own x.counts) ∙ h.limits;
       book_is = book_is;
       none = none;
       leaves = marked_leaves grid x u h.leaves (h.none ∙ sym none);
@@ -331,12 +385,7 @@ follows_warmed x grid book v u old ops h book_is none plain is =
 pub empty_as : (x y : Table) (grid : Ladders) (book : Book) → tidied x ≡ y → IsEmptyTable y grid book
     → IsEmptyTable x grid book
 empty_as x y grid book is h = record {
-  limits = sym (ap (λ (s : Standing). s.limits) (own x.counts)) ∙ ap (λ (t : Table). limits_of t.counts) is ∙ h.limits;
   book_is = ap (λ (t : Table). t.seen.book) is ∙ h.book_is;
   none = ap (λ (t : Table). t.seen.log) is ∙ h.none;
   leaves = leaves_as grid x y is h.leaves;
 }
-
--- the grid over which an empty table is right is that of its limits
-pub grid_of_empty : (x : Table) (grid : Ladders) → Leaves grid x → x.seen.log ≡ [] → grid ≡ limits_of x.counts
-grid_of_empty x grid h none = sym (ap (λ (s : Standing). s.limits) (h.standing ∙ left_none grid x.seen.log none))

@@ -1,14 +1,13 @@
 -- Counters written from limits and seats.
-use Rattle.std.proofs.Common.{◌≡◌, ◌==◌, ◌||◌, ℕ, zero, suc, Bool, true, false, cond, List, [], ◌∷◌, map, refl, ap, sym, ◌∙◌, arith}
-use Rattle.std.specs.Prelude.{if◌then◌else◌}
-use Rattle.std.proofs.lemmas.Bool.Decides.{nat_tests}
-use Rattle.seat_nesting.specs.Nesting.{Ladders, Steps, ByClass, Table as HeldSeats, ladder_at, legs_of, steps_at, has_class}
-use Rattle.seat_nesting.specs.Counting.{LegSeats, Counted, count_at, held_on, leg_in, legs_in, leg_at, limits_of, table_of}
+use Rattle.std.proofs.Common.{◌≡◌, ◌==◌, ◌||◌, ℕ, zero, suc, Bool, true, false, cond, List, [], ◌∷◌, Option, Some, None, map, refl, ap, sym, ◌∙◌}
+use Rattle.std.specs.Prelude.{if◌then◌else◌, option_map}
+use Rattle.seat_nesting.specs.Nesting.{Ladders, Steps, ByClass, Table as HeldSeats, ladder_at, has_class}
+use Rattle.seat_nesting.specs.Counting.{LegSeats, Counted, count_at, held_on, leg_in, leg_at, limits_of, table_of}
 use Rattle.seat_journal.specs.declared.entry.Entry.{Entry}
 use Rattle.seat_rules.specs.Showing.{Standing, shown, standing_of}
 use Rattle.seat_display.specs.declared.table.Table.{Table}
 use Rattle.seat_display.specs.declared.table.Op.TheVariants.{Line}
-use Rattle.seat_display.specs.Shown.{flight_seats, all_seats, counters_of, counts_after, tidied, apply, ShowsEntry}
+use Rattle.seat_display.specs.Shown.{flight_seats, all_seats, counters_of, counts_after, standing_in, tidied, apply, ShowsEntry}
 use Rattle.seat_nesting.proofs.LimitChanges.{ladder_seen}
 use Rattle.seat_nesting.proofs.LegCounting.{count_lacking}
 use Rattle.seat_rules.proofs.History.Faults.{nat_same}
@@ -97,8 +96,15 @@ own counts = written (standing_of counts) (own_on_ladders counts)
 
 -- ---- one entry more
 
+-- whether the counters that there may be are so written first or not, the same is shown
+after_own : (counts : Option Counted) (e : Entry)
+    → option_map counters_of (option_map (λ (s : Standing). shown s e) (standing_in counts))
+    ≡ counts_after (option_map counters_of (standing_in counts)) e
+after_own None e = refl
+after_own (Some counts) e = ap (λ (s : Standing). Some (counters_of (shown s e))) (sym (own counts))
+
 pub absorbed : (old new : Table) (e : Entry) → ShowsEntry old new e → tidied new ≡ apply (tidied old) (Line e)
 absorbed old new e h =
-    let counts : counters_of (standing_of new.counts) ≡ counts_after (tidied old).counts e =
-    ap counters_of h.standing ∙ ap (λ (s : Standing). counters_of (shown s e)) (sym (own old.counts)) in
-    λ i. record { counts = counts i; lines = h.lines i; seen = h.seen i }
+    let counts : (tidied new).counts ≡ counts_after (tidied old).counts e =
+    ap (option_map counters_of) h.standing ∙ after_own old.counts e in
+    λ i. record { opening = h.opening i; counts = counts i; lines = h.lines i; seen = h.seen i }

@@ -1,10 +1,10 @@
 -- The table that is shown, and its rule. No code keeps the list of entries behind it.
-use Rattle.std.specs.Prelude.{◌≡◌, ℕ, suc, ◌+◌, ◌<◌, ◌^◌, List, [], ◌∷◌, ◌++◌, length, map, nat_lt, if◌then◌else◌, true, false}
+use Rattle.std.specs.Prelude.{◌≡◌, ℕ, suc, ◌+◌, ◌<◌, ◌^◌, Bool, List, [], ◌∷◌, ◌++◌, length, map, nat_lt, if◌then◌else◌, true, false, Option, option_map, IfSome}
 use mathlib.Core.Option.{some}
 use lib.ListN.{get_elem?}
 use Rattle.logbook.specs.Pages.{Book}
 use Rattle.seat_nesting.specs.Nesting.{Ladders, Steps, ByClass, Table as HeldSeats}
-use Rattle.seat_nesting.specs.Counting.{LegSeats, Counted, limits_of}
+use Rattle.seat_nesting.specs.Counting.{LegSeats, Counted}
 use Rattle.seat_journal.specs.declared.entry.Entry.{Entry}
 use Rattle.seat_rules.specs.Journal.{IsLegal, replay}
 use Rattle.seat_rules.specs.Showing.{Standing, shown, standing_left, standing_of}
@@ -12,6 +12,13 @@ use Rattle.seat_display.specs.declared.table.Table.{Table}
 use Rattle.seat_display.specs.declared.table.Op.{Op}
 use Rattle.seat_display.specs.declared.table.Op.TheVariants.{Line, Mark}
 use Rattle.seat_display.specs.declared.table.View.{View}
+use Rattle.seat_display.specs.declared.opening.Shows.{Shows}
+use Rattle.seat_display.specs.declared.opening.Shows.TheVariants.{Rooms, Lines}
+
+-- whether the tables of a display have counters
+abbrev pub has_rooms : Shows → Bool
+has_rooms Rooms = true
+has_rooms Lines = false
 
 -- ---- counters written from limits and seats, so that equal seats are equal counters
 
@@ -29,9 +36,18 @@ all_seats (legs ∷ flights) seats = flight_seats legs (seats 0) ∷ all_seats f
 abbrev pub counters_of : Standing → Counted
 counters_of s = all_seats s.limits s.seats
 
+-- the limits and the seats in the counters, where there are any
+abbrev pub standing_in : Option Counted → Option Standing
+standing_in counts = option_map standing_of counts
+
 -- the same counters, so written
 abbrev pub tidied : Table → Table
-tidied t = record { counts = counters_of (standing_of t.counts); lines = t.lines; seen = t.seen }
+tidied t = record {
+  opening = t.opening;
+  counts = option_map counters_of (standing_in t.counts);
+  lines = t.lines;
+  seen = t.seen;
+}
 
 -- ---- one entry more
 
@@ -39,22 +55,28 @@ tidied t = record { counts = counters_of (standing_of t.counts); lines = t.lines
 abbrev pub left_by : Ladders → List Entry → Standing
 left_by grid journal = standing_left (replay grid journal)
 
-abbrev pub counts_after : Counted → Entry → Counted
-counts_after counts e = counters_of (shown (standing_of counts) e)
+abbrev pub counts_after : Option Counted → Entry → Option Counted
+counts_after counts e = option_map (λ (s : Standing). counters_of (shown s e)) (standing_in counts)
 
 abbrev pub one_more : ℕ → ℕ
 one_more n = (if nat_lt (n + 1) (2 ^ 32) then n + 1 else n)
 
--- an entry was shown to the counters, and counted
+-- an entry was shown to the counters, where there are any, and counted
 pub record ShowsEntry (old new : Table) (e : Entry) : Type 0 where
-  pub standing : standing_of new.counts ≡ shown (standing_of old.counts) e
+  pub opening : new.opening ≡ old.opening
+  pub standing : standing_in new.counts ≡ option_map (λ (s : Standing). shown s e) (standing_in old.counts)
   pub lines : new.lines ≡ one_more old.lines
   pub seen : new.seen ≡ old.seen
 
 -- the table after an operation, where its counters are so written
 abbrev pub apply : Table → Op → Table
-apply t (Line e) = record { counts = counts_after t.counts e; lines = one_more t.lines; seen = t.seen }
-apply t (Mark s) = record { counts = t.counts; lines = t.lines; seen = s }
+apply t (Line e) = record {
+  opening = t.opening;
+  counts = counts_after t.counts e;
+  lines = one_more t.lines;
+  seen = t.seen;
+}
+apply t (Mark s) = record { opening = t.opening; counts = t.counts; lines = t.lines; seen = s }
 
 -- the entries among these operations
 abbrev pub entries_of : List Op → List Entry
@@ -64,15 +86,15 @@ entries_of (Mark s ∷ ops) = entries_of ops
 
 -- ---- the rule
 
--- the counters know the limits and the seats that the seen history leaves, which is legal over this opening grid
+-- the seen history is legal over this opening grid, and counters know the limits and the seats that it leaves
 pub record Leaves (grid : Ladders) (x : Table) : Type 0 where
   pub legal : IsLegal grid x.seen.log
-  pub standing : standing_of x.counts ≡ left_by grid x.seen.log
+  pub opening : x.opening ≡ grid
+  pub standing : IfSome x.counts (λ c. standing_of c ≡ left_by grid x.seen.log)
   pub lines : x.lines ≡ length x.seen.log
 
 -- a table with no line, over this grid
 pub record IsEmptyTable (x : Table) (grid : Ladders) (book : Book) : Type 0 where
-  pub limits : limits_of x.counts ≡ grid
   pub book_is : x.seen.book ≡ book
   pub none : x.seen.log ≡ []
   pub leaves : Leaves grid x

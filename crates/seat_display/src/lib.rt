@@ -9,6 +9,6 @@ mod rule;
 mod table;
 mod viewer;
 
-pub use opening::open;
+pub use opening::{Shows, open};
 pub use publisher::{Publisher, Told};
 pub use viewer::{Sight, Viewer};

@@ -16,7 +16,9 @@ impl Table {
     fn show(&mut self, entry: &Entry)
         ensures { ShowsEntry self.old self.new entry.now }
     {
-        show(entry, &mut self.counts);
+        if let Some(counts) = &mut self.counts {
+            show(entry, counts);
+        }
         self.lines = one_more(self.lines);
     }
 }

@@ -3,11 +3,12 @@ use crate::book::Trace;
 use seat_journal::Entry;
 use seat_nesting::{Counts, Grid};
 
-/// The counters that are shown, with the limits at that point; the number of lines that they stand for; and those lines
-/// themselves, which have no bytes.
+/// The opening limits; the counters, where rooms are shown, with the limits at that point; the number of lines that are
+/// shown; and those lines themselves, which have no bytes.
 #[derive(Drop)]
 pub struct Table {
-    pub counts: Counts,
+    pub opening: Grid,
+    pub counts: Option<Counts>,
     pub lines: u32,
     pub seen: Trace,
 }

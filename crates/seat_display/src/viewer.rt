@@ -35,13 +35,13 @@ impl Model for Viewer {
     ghost invariant = { λ s. ((known s.reader.place).knows ≡ true) × ((known s.reader.place).seen.book ≡ s.seen.book) × (s.lines ≡ length s.seen.log) × IsLegal (known s.reader.place).grid s.seen.log };
 }
 
-/// What a viewer sees while it is let in: the limits and the seats at one point of the history.
+/// What a viewer sees while it is let in, where rooms are shown: the limits and the seats at one point of the history.
 pub struct Sight {
     reading: TableReading,
 }
 
 impl Model for Sight {
-    ghost use Rattle.std.specs.Prelude.{◌≡◌, true};
+    ghost use Rattle.std.specs.Prelude.{◌≡◌, true, IsSome};
     ghost use Rattle.left_right.specs.Sides.{view as known};
     ghost use Rattle.seat_display.specs.Faces.{Viewed};
     ghost use Rattle.seat_display.specs.Shown.{Leaves};
@@ -50,7 +50,7 @@ impl Model for Sight {
 
     ghost view = { λ s. record { book = s.reading.part.value.seen.book; grid = (known s.reading.place).grid; front = s.reading.part.value.seen.log } };
 
-    ghost invariant = { λ s. ((known s.reading.place).knows ≡ true) × ((known s.reading.place).seen.book ≡ s.reading.part.value.seen.book) × Leaves (known s.reading.place).grid s.reading.part.value };
+    ghost invariant = { λ s. ((known s.reading.place).knows ≡ true) × ((known s.reading.place).seen.book ≡ s.reading.part.value.seen.book) × Leaves (known s.reading.place).grid s.reading.part.value × IsSome s.reading.part.value.counts };
 }
 
 impl Sight {
@@ -58,7 +58,10 @@ impl Sight {
     pub fn room(&self, place: Place, class: Class) -> u16
         ensures { result ≡ room_left (replay self.now.grid self.now.front) place class }
     {
-        self.reading.get().counts.room(place, class)
+        match &self.reading.get().counts {
+            Some(counts) => counts.room(place, class),
+            None => unreachable!(),
+        }
     }
 
     fn leave(self) -> (TableReader, Trace, u32)
@@ -84,10 +87,10 @@ struct Glance<T> {
 }
 
 impl Viewer {
-    /// Goes in, has `at` look at what is then seen, and leaves. It waits for nobody. None where no reader is let in, which is
-    /// where the publisher has ended, or where the table has fewer lines than this viewer has learnt of. The latter never
-    /// happens, since lines are told of only once they are published, but no clause says so. What is looked at has no part in
-    /// it: that is known to `at` alone.
+    /// Goes in, has `at` look at what is then seen, and leaves. It waits for nobody. None where no rooms are shown, where no
+    /// reader is let in, which is where the publisher has ended, or where the table has fewer lines than this viewer has learnt
+    /// of. The last never happens, since lines are told of only once they are published, but no clause says so. What is looked
+    /// at has no part in it: that is known to `at` alone.
     pub fn look<T: Drop, F: FnOnce(&Sight) -> T>(&mut self, at: F) -> Option<T>
         requires { F.IsAlwaysCallable at }
         ensures found { IfSome result (λ t. FnOnceReturnsAt F.FnOnce at self.new t) }
@@ -165,7 +168,7 @@ fn compare(one: &Trace, other: &Trace)
     both.learn(other);
 }
 
-// Enters, and leaves once `at` has looked.
+// Enters, and leaves once `at` has looked, or at once where no rooms are shown.
 fn enter<T, F: FnOnce(&Sight) -> T>(reader: &mut TableReader, at: F) -> Option<Glance<T>>
     requires knows { (view reader.old.place).knows ≡ true }
     requires at { F.IsAlwaysCallable at }
@@ -202,6 +205,9 @@ fn find<T, F: FnOnce(&Sight) -> T>(reader: TableReader, at: F) -> (TableReader, 
 {
     match reader.enter_as::<Looks>() {
         Ok(reading) => {
+            if reading.get().counts.is_none() {
+                return (reading.leave(), None);
+            }
             let sight = Sight { reading };
             let found = at(&sight);
             let (reader, seen, lines) = sight.leave();

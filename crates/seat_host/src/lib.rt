@@ -18,6 +18,7 @@ pub use line_booking::{BookFault, Receipt};
 pub use manager::Manager;
 pub use parts::{HostFault, Parts, showing};
 pub use party::Party;
+pub use seat_display::Shows;
 pub use session::Session;
 pub use settling::{AllReceipts, GatherFault, Receipts, Settled, Unsettled, gather};
 pub use under_lock::Refusal;

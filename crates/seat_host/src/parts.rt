@@ -8,7 +8,7 @@ ghost use Rattle.seat_host.specs.declared.parts.HostFault.TheVariants.{Sessions,
 use crate::ledgers::Blanks;
 use airline_base::Memory;
 use seat_core::Core;
-use seat_display::{Publisher, Viewer, open as open_display};
+use seat_display::{Publisher, Shows, Viewer, open as open_display};
 use seat_journal::Entry;
 use seat_nesting::Grid;
 use std::alloc::Global;
@@ -49,6 +49,7 @@ impl Model for Parts {
 
 impl Parts {
     /// The parts of a host for a manager and so many sessions, 1 to 8, over a grid. Its journal takes `cap` lines, 1 to 999,999.
+    /// Whether a look finds rooms is as `shows` says.
     #[tactic(auto, using(crate::proofs::Opening::only_none))]
     pub fn new<R: Wait>(
         rt: &R,
@@ -56,6 +57,7 @@ impl Parts {
         grid: Grid,
         sessions: u8,
         cap: u32,
+        shows: Shows,
     ) -> Result<Parts, HostFault>
         requires cap { (1 ≤ cap) × (cap ≤ 999999) }
         ensures parts { IfOk result (λ p. (p.grid ≡ grid) × (p.cap ≡ cap) × (p.sessions ≡ sessions)) }
@@ -68,19 +70,20 @@ impl Parts {
             return Err(HostFault::Sessions);
         }
         match Core::new(alloc, grid, cap) {
-            Ok(core) => Parts::over(rt, alloc, core, sessions),
+            Ok(core) => Parts::over(rt, alloc, core, sessions, shows),
             Err(Memory) => Err(HostFault::Memory),
         }
     }
 
     /// The parts of a host for a manager and so many sessions, 1 to 8, that goes on from an inventory: its limits, its most
     /// lines, at most 999,999, and its lines, of which none may be of a session above these. Each line stays the receipt of
-    /// its session, and is visible from the first.
+    /// its session, and is visible from the first. Whether a look finds rooms is as `shows` says.
     pub fn over<R: Wait>(
         rt: &R,
         alloc: Global,
         core: Core,
         sessions: u8,
+        shows: Shows,
     ) -> Result<Parts, HostFault>
         requires most { core.cap ≤ 999999 }
         requires only { OnlyFirst sessions core.journal }
@@ -93,14 +96,20 @@ impl Parts {
         if !is_in_range(sessions) {
             return Err(HostFault::Sessions);
         }
-        match Parts::beside(rt, alloc, core, sessions) {
+        match Parts::beside(rt, alloc, core, sessions, shows) {
             Ok(parts) => Ok(parts),
             Err(Memory) => Err(HostFault::Memory),
         }
     }
 
     // The parts around an inventory: a copy of its limits, and a table that shows its lines.
-    fn beside<R: Wait>(rt: &R, alloc: Global, core: Core, sessions: u8) -> Result<Parts, Memory>
+    fn beside<R: Wait>(
+        rt: &R,
+        alloc: Global,
+        core: Core,
+        sessions: u8,
+        shows: Shows,
+    ) -> Result<Parts, Memory>
         requires most { core.cap ≤ 999999 }
         requires only { OnlyFirst sessions core.journal }
         requires sessions { (1 ≤ sessions) × (sessions ≤ 8) }
@@ -110,8 +119,14 @@ impl Parts {
         let Ok(grid) = core.grid().copy(alloc) else {
             return Err(Memory);
         };
-        let Ok((publisher, viewers)) = shown_over(rt, alloc, &grid, core.journal(), sessions + 1)
-        else {
+        let Ok((publisher, viewers)) = shown_over(
+            rt,
+            alloc,
+            &grid,
+            core.journal(),
+            sessions + 1,
+            shows,
+        ) else {
             return Err(Memory);
         };
         Ok(Parts {
@@ -132,6 +147,7 @@ fn shown_over<R: Wait>(
     grid: &Grid,
     lines: &[Entry],
     places: u8,
+    shows: Shows,
 ) -> Result<(Publisher, Vec<Viewer>), Memory>
     requires places { (0 < places) × (places < 10) }
     requires legal { IsLegal grid.now lines.now }
@@ -139,7 +155,7 @@ fn shown_over<R: Wait>(
     ensures publisher { IfOk result (λ r. (r.0.grid ≡ grid.now) × (r.0.visible ≡ lines.now) × (r.0.pending ≡ [])) }
     ensures viewers { IfOk result (λ r. (vec_len r.1 ≡ places) × All (λ v. v ≡ opened r.0.book grid.now) r.1.items) }
 {
-    let Ok((publisher, viewers)) = open_display(rt, alloc, grid, places) else {
+    let Ok((publisher, viewers)) = open_display(rt, alloc, grid, places, shows) else {
         return Err(Memory);
     };
     let Ok(publisher) = showing(rt, alloc, publisher, lines) else {
