@@ -20,4 +20,6 @@ mod meeting;
 #[cfg(test)]
 mod race_tests;
 #[cfg(test)]
+mod shown_tests;
+#[cfg(test)]
 mod working_tests;
