@@ -2,6 +2,7 @@
 //! It knows bookings, waiting lists and legal histories, and nothing of threads, of texts or of where commands come from.
 #![tactic(auto)]
 
+mod balance;
 mod carrying;
 mod changes;
 mod inventory;
@@ -10,6 +11,7 @@ mod replaying;
 mod reply;
 mod sales;
 
+pub use balance::Balance;
 pub use carrying::carry_out;
 pub use inventory::{Core, Prepared};
 pub use replaying::{are_same_advices, replay};

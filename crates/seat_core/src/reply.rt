@@ -7,7 +7,7 @@ ghost use Rattle.seat_nesting.specs.Nesting.{is_listed, may_wait};
 ghost use Rattle.seat_rules.specs.Bookings.{is_for, waiting};
 ghost use Rattle.seat_bookings.specs.Books.{book_at, book_for, book_of, queue_at};
 ghost use Rattle.seat_bookings.specs.Queues.{queue_of};
-ghost use Rattle.seat_rules.specs.Sequential.{advice_of, answer, booking_of, cancel, pass, reduced, state_of, want};
+ghost use Rattle.seat_rules.specs.Sequential.{Outcome, advice_of, answer, booking_of, cancel, pass, reduced, state_of, want};
 ghost use Rattle.seat_rules.specs.declared.booking.Status.TheVariants.{Waiting};
 ghost use Rattle.seat_rules.specs.Journal.{line_of};
 ghost use Rattle.seat_core.specs.Answers.{CanAnswerWork, CountsFlight, IsReply, Says};
@@ -263,4 +263,34 @@ pub fn reply(alloc: Global, letters: [u8; 2]) -> Answer
         released: 0,
         advices: Ok(Vec::new(alloc)),
     }
+}
+
+/// The line with an answer, if there was memory for its advices.
+pub fn entry_of(
+    told: Answer,
+    number: u32,
+    session: u8,
+    call: u32,
+    work: Work,
+) -> Result<Entry, Memory>
+    ensures { (outcome : Outcome) → Says outcome told
+        → IfOk result (λ entry. entry ≡ line_of outcome number session call work) }
+{
+    let Answer {
+        reply,
+        released,
+        advices,
+    } = told;
+    let Ok(advices) = advices else {
+        return Err(Memory);
+    };
+    Ok(Entry {
+        number,
+        session,
+        call,
+        work,
+        reply,
+        released,
+        advices: Advices::from_vec(advices),
+    })
 }
