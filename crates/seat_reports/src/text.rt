@@ -47,13 +47,3 @@ pub fn put_entry(text: &mut Vec<u8>, entry: &Entry) -> Result<(), AllocError>
     put_advices(text, entry.advices.as_slice())?;
     put(text, b"\n")
 }
-
-/// Adds the lines of entries, in order.
-pub fn put_entries(text: &mut Vec<u8>, entries: &[Entry]) -> Result<(), AllocError>
-    ensures { OnOk result (text.new.items ≡ text.old.items ++ flat_map entry_text entries.now) }
-{
-    for entry in entries {
-        put_entry(text, entry)?;
-    }
-    Ok(())
-}
