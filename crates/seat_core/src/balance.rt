@@ -91,7 +91,7 @@ impl Balance {
         let number = self.lines + 1;
         let call = self.calls[session as usize] + 1;
         let told = answer_work(alloc, &mut self.counts, &self.books, number, &work);
-        entry_of(told, number, session, call, work)
+        entry_of(alloc, told, number, session, call, work)
     }
 
     // Does what the next line tells, for which there is memory.

@@ -265,8 +265,9 @@ pub fn reply(alloc: Global, letters: [u8; 2]) -> Answer
     }
 }
 
-/// The line with an answer, if there was memory for its advices.
+/// The line with an answer, if there is memory for its advices.
 pub fn entry_of(
+    alloc: Global,
     told: Answer,
     number: u32,
     session: u8,
@@ -284,6 +285,9 @@ pub fn entry_of(
     let Ok(advices) = advices else {
         return Err(Memory);
     };
+    let Ok(advices) = Advices::from_vec(alloc, advices) else {
+        return Err(Memory);
+    };
     Ok(Entry {
         number,
         session,
@@ -291,6 +295,6 @@ pub fn entry_of(
         work,
         reply,
         released,
-        advices: Advices::from_vec(advices),
+        advices,
     })
 }
