@@ -1,12 +1,12 @@
 -- The grid of the lifted limits, leg by leg.
 use Rattle.std.proofs.Common.{◌≡◌, ℕ, ◌+◌, ◌<◌, ◌≤◌, Bool, true, false, List, [], ◌∷◌, ◌++◌, length, map, drop, get_or, Option, Some, None, arith, refl, ap, sym, subst, ◌∙◌}
-use Rattle.std.specs.Prelude.{slice_get}
-use Rattle.std.proofs.lemmas.List.{map_push}
+use Rattle.std.specs.Prelude.{slice_get, OnOk, Result, Ok, Err}
 use Rattle.std.proofs.lemmas.Option.{get_or_from_slice_get, slice_get_within}
 use Rattle.airline_base.specs.declared.place.Place.{Place}
 use Rattle.ssim_flights.specs.declared.flight.DatedLeg.{DatedLeg}
 use Rattle.ssim_flights.specs.declared.flight.Flight.{Flight as Flown}
-use Rattle.seat_nesting.specs.Nesting.{HasLadders, IsLadder, IsLegLadder, Ladders, Steps, ladder_at, steps_at, steps_of}
+use Rattle.seat_nesting.specs.Nesting.{HasLadders, IsLadder, IsLegLadder, Ladders, Steps, ladder_at, steps_at}
+use Rattle.seat_nesting.specs.Planning.{Planned, with_flight}
 use Rattle.seat_nesting.proofs.CountChanges.{each_push}
 use Rattle.seat_rules.specs.Inventory.{Inventory}
 use Rattle.seat_carrying.specs.Lifting.{lifted, top_of}
@@ -36,21 +36,30 @@ none_lifted s lists flight leg none =
 
 -- ---- one leg more
 
-pub leg_more : (rule : ℕ → Steps) (ladders pushed : List (Option Steps)) (o : Option Steps) (i : ℕ) (legs : List DatedLeg)
-    (whole : List Steps) → map steps_of ladders ++ each_from (leg_ladder rule) i (drop i legs) ≡ whole → i < length legs
-    → pushed ≡ ladders ++ o ∷ [] → steps_of o ≡ rule i
-    → map steps_of pushed ++ each_from (leg_ladder rule) (i + 1) (drop (i + 1) legs) ≡ whole
-leg_more rule ladders pushed o i legs whole so_far inside is its =
-    number_more (leg_ladder rule) (λ n. rule n ∷ []) i (i + 1) i legs (map steps_of ladders) (map steps_of pushed) whole (λ n leg. refl) so_far inside put refl
-  where
-    put : map steps_of pushed ≡ map steps_of ladders ++ rule i ∷ []
-    put = ap (map steps_of) is ∙ map_push steps_of ladders o ∙ ap (λ (s : Steps). map steps_of ladders ++ s ∷ []) its
+pub leg_more : (rule : ℕ → Steps) (so_far more : List Steps) (i : ℕ) (legs : List DatedLeg)
+    (whole : List Steps) → so_far ++ each_from (leg_ladder rule) i (drop i legs) ≡ whole → i < length legs
+    → more ≡ so_far ++ rule i ∷ []
+    → more ++ each_from (leg_ladder rule) (i + 1) (drop (i + 1) legs) ≡ whole
+leg_more rule so_far more i legs whole all inside is =
+    number_more (leg_ladder rule) (λ n. rule n ∷ []) i (i + 1) i legs so_far more whole (λ n leg. refl) all inside is refl
 
-pub ladder_more : (ladders pushed : List (Option Steps)) (o : Option Steps) → ((leg : ℕ) → IsLegLadder (steps_at (map steps_of ladders) leg))
-    → IsLegLadder (steps_of o) → pushed ≡ ladders ++ o ∷ [] → (leg : ℕ) → IsLegLadder (steps_at (map steps_of pushed) leg)
-ladder_more ladders pushed o all here is =
-    subst (λ (l : List Steps). (leg : ℕ) → IsLegLadder (steps_at l leg)) (sym (ap (map steps_of) is ∙ map_push steps_of ladders o))
-    (each_push (map steps_of ladders) (steps_of o) [] (λ (steps : Steps). IsLegLadder steps) all here)
+pub ladder_more : (so_far more : List Steps) (steps : Steps) → ((leg : ℕ) → IsLegLadder (steps_at so_far leg))
+    → IsLegLadder steps → more ≡ so_far ++ steps ∷ [] → (leg : ℕ) → IsLegLadder (steps_at more leg)
+ladder_more so_far more steps all here is =
+    subst (λ (l : List Steps). (leg : ℕ) → IsLegLadder (steps_at l leg)) (sym is)
+    (each_push so_far steps [] (λ (s : Steps). IsLegLadder s) all here)
+
+-- the next flight is closed
+pub closed_more : {T E : Type 0} (r : Result T E) (old mid new : Planned) (legs : List Steps) → mid.flights ≡ old.flights → mid.legs ≡ legs
+    → OnOk r (new ≡ with_flight mid) → OnOk r (new.flights ≡ old.flights ++ legs ∷ [])
+closed_more (Ok x) old mid new legs flights its is =
+    ap (λ (p : Planned). p.flights) is ∙ ap (λ (g : Ladders). g ++ mid.legs ∷ []) flights ∙ ap (λ (l : List Steps). old.flights ++ l ∷ []) its
+closed_more (Err e) old mid new legs flights its is = tt
+
+pub closed_nested : {T E : Type 0} (r : Result T E) (mid legs : List Steps) → ((leg : ℕ) → IsLegLadder (steps_at mid leg)) → mid ≡ legs
+    → OnOk r ((leg : ℕ) → IsLegLadder (steps_at legs leg))
+closed_nested (Ok x) mid legs all its = subst (λ (l : List Steps). (leg : ℕ) → IsLegLadder (steps_at l leg)) its all
+closed_nested (Err e) mid legs all its = tt
 
 -- ---- one flight more
 

@@ -101,7 +101,7 @@ fn lifted_legs(
 {
     let mut all = Vec::new(alloc);
     for index in 0..flights.len() {
-        add_lifted(&mut all, file, lifted, index, flights.flight(index))?;
+        add_lifted(&mut all, file, lifted, index, &flights.flight(index))?;
     }
     Ok(all)
 }

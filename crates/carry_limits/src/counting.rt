@@ -38,7 +38,7 @@ pub fn overs(
 {
     let mut all = Vec::new(alloc);
     for index in 0..flights.len() {
-        add_legs(&mut all, file, by, index, flights.flight(index))?;
+        add_legs(&mut all, file, by, index, &flights.flight(index))?;
     }
     Ok(all)
 }

@@ -1,8 +1,8 @@
 //! The limits of all legs, lifted for the bookings that are carried.
 //! It knows no booking's fate.
-ghost use Rattle.std.specs.Prelude.{◌≡◌, ◌≤◌, ℕ, IfOk, OnOk, length};
+ghost use Rattle.std.specs.Prelude.{◌≡◌, ◌≤◌, ◌++◌, ◌∷◌, [], ℕ, IfOk, OnOk, length, unwrap_or};
 ghost use Rattle.std.specs.Bool.{OnFalse, OnTrue};
-ghost use Rattle.seat_nesting.specs.Nesting.{IsLegLadder, ladder_at, steps_at, steps_of};
+ghost use Rattle.seat_nesting.specs.Nesting.{IsLegLadder, ladder_at, steps_at};
 ghost use Rattle.seat_rules.specs.Bookings.{held, waiting};
 ghost use Rattle.limit_changes.specs.Laws.{AreLadders};
 ghost use Rattle.seat_carrying.specs.Lifting.{lifted, top_of};
@@ -16,7 +16,7 @@ use crate::parting::ByFlight;
 use crate::wanting::{Seasons, other_limits, sets_any};
 use airline_base::Memory;
 use seat_carrying::lifted_for;
-use seat_nesting::{FlightLegs, Grid, Ladder, SharedLadder, Step};
+use seat_nesting::{Grid, GridPlan, Ladder, Step};
 use seat_rules::Booking;
 use ssim_flights::DatedLeg;
 use std::alloc::Global;
@@ -32,119 +32,112 @@ pub fn lifted_limits(alloc: Global, seasons: &Seasons<'_>, by: &ByFlight) -> Res
 {
     let flights = seasons.flights;
     let sets = sets_any(seasons.before);
-    let mut grid = Vec::with_capacity(alloc, flights.len() as usize)?;
+    let mut plan = GridPlan::new(alloc, flights.len() as usize)?;
     for flight in 0..flights.len() {
-        let legs = flights.flight(flight).legs.as_slice();
-        grid.push(legs_of(alloc, seasons, sets, by, flight, legs)?)?;
+        let flown = flights.flight(flight);
+        let legs = flown.legs.as_slice();
+        add_flight(&mut plan, seasons, sets, by, flight, legs)?;
     }
-    Grid::of(alloc, grid)
+    Grid::of(alloc, plan)
 }
 
-/// Those of the legs of a flight.
+/// Adds a flight with those of its legs.
 #[tactic(auto, using(crate::proofs::Grids::legs_none))]
-fn legs_of(
-    alloc: Global,
+fn add_flight(
+    plan: &mut GridPlan,
     seasons: &Seasons<'_>,
     sets: bool,
     by: &ByFlight,
     flight: u32,
     legs: &[DatedLeg],
-) -> Result<FlightLegs, Memory>
+) -> Result<(), Memory>
+    requires closed { plan.old.legs ≡ [] }
     requires few { length legs.now ≤ 8 }
     requires new { seasons.now.new.now ≡ seasons.now.flights.now }
     requires sets { OnFalse sets (AreAsBegun seasons.now.before.now) }
-    ensures value { IfOk result (λ all. all ≡ leg_ladders (lifted_on seasons.now by.now flight) legs.now) }
-    ensures nested { IfOk result (λ all. (leg : ℕ) → IsLegLadder (steps_at all leg)) }
+    ensures value { OnOk result (plan.new.flights
+        ≡ plan.old.flights ++ leg_ladders (lifted_on seasons.now by.now flight) legs.now ∷ []) }
+    ensures closed { OnOk result (plan.new.legs ≡ []) }
+    ensures nested { OnOk result ((leg : ℕ)
+        → IsLegLadder (steps_at (leg_ladders (lifted_on seasons.now by.now flight) legs.now) leg)) }
     ensures file { OnOk result (LegsNest seasons.now.file.now flight (length legs.now)) }
 {
-    let mut ladders = Vec::with_capacity(alloc, legs.len())?;
     for leg in 0..legs.len() {
-        ladders.push(leg_of(alloc, seasons, sets, by, flight, leg as u8)?)?;
+        add_leg(plan, seasons, sets, by, flight, leg as u8)?;
     }
-    Ok(FlightLegs::of(ladders))
+    plan.close_flight()
 }
 
-/// Those of a leg, where the file has any.
+/// Adds a leg with those that it has, where the file has any.
 #[tactic(auto, using(crate::proofs::Lifted::none_lifted, crate::proofs::Standing::leg_ladder_of, crate::proofs::Standing::leg_ladder_none))]
-fn leg_of(
-    alloc: Global,
+fn add_leg(
+    plan: &mut GridPlan,
     seasons: &Seasons<'_>,
     sets: bool,
     by: &ByFlight,
     flight: u32,
     leg: u8,
-) -> Result<Option<SharedLadder>, Memory>
+) -> Result<(), Memory>
     requires new { seasons.now.new.now ≡ seasons.now.flights.now }
     requires sets { OnFalse sets (AreAsBegun seasons.now.before.now) }
-    ensures value { IfOk result (λ ladder. steps_of ladder ≡ lifted_on seasons.now by.now flight leg) }
-    ensures nested { IfOk result (λ ladder. IsLegLadder (steps_of ladder)) }
+    ensures value { OnOk result (plan.new.legs ≡ plan.old.legs ++ lifted_on seasons.now by.now flight leg ∷ []) }
+    ensures flights { OnOk result (plan.new.flights ≡ plan.old.flights) }
+    ensures nested { OnOk result (IsLegLadder (lifted_on seasons.now by.now flight leg)) }
     ensures file { OnOk result (IsLegLadder (ladder_at seasons.now.file.now flight leg)) }
 {
-    let Some(file) = seasons.file.shared(flight, leg) else {
-        return Ok(None);
+    let Some(file) = seasons.file.ladder(flight, leg) else {
+        return plan.add_leg(None);
     };
-    let ladder = lifted_ladder(alloc, seasons, sets, file, by.on(flight), flight, leg)?;
+    let lifted = lifted_ladder(seasons, sets, file, by.on(flight), flight, leg);
+    let ladder = ladder_or(&lifted, file);
     // For the prover alone: a ladder says that its limits nest.
-    let _ = file.get().steps();
-    let _ = ladder.get().steps();
-    Ok(Some(ladder))
+    let _ = file.steps();
+    let _ = ladder.steps();
+    let number = plan.share(ladder)?;
+    plan.add_leg(Some(number))
 }
 
-/// The wanted limits of a leg whose file has these, lifted.
+/// The wanted limits of a leg whose file has these, lifted: none where they are the file's.
 fn lifted_ladder(
-    alloc: Global,
     seasons: &Seasons<'_>,
     sets: bool,
-    file: &SharedLadder,
+    file: &Ladder,
     bookings: &[Booking],
     flight: u32,
     leg: u8,
-) -> Result<SharedLadder, Memory>
+) -> Option<Ladder>
     requires new { seasons.now.new.now ≡ seasons.now.flights.now }
     requires file { file.now ≡ ladder_at seasons.now.file.now flight leg }
     requires sets { OnFalse sets (AreAsBegun seasons.now.before.now) }
-    ensures { IfOk result (λ ladder. ladder
-        ≡ lifted (top_of file.now) (held bookings.now flight leg) (waiting bookings.now flight leg) (wanted_on seasons.now flight leg)) }
+    ensures { unwrap_or result file.now
+        ≡ lifted (top_of file.now) (held bookings.now flight leg) (waiting bookings.now flight leg) (wanted_on seasons.now flight leg) }
 {
-    match other_limits(seasons, sets, file.get(), flight, leg) {
-        Some(wanted) => lifted_wanted(alloc, file, &wanted, bookings, flight, leg),
-        None => lifted_file(alloc, file, bookings, flight, leg),
+    match other_limits(seasons, sets, file, flight, leg) {
+        Some(wanted) => Some(lifted_for(top_of(file), &wanted, bookings, flight, leg)),
+        None => lifted_file(file, bookings, flight, leg),
     }
 }
 
-/// These limits, lifted as far as the file's highest rank has seats.
-fn lifted_wanted(
-    alloc: Global,
-    file: &SharedLadder,
-    wanted: &Ladder,
-    bookings: &[Booking],
-    flight: u32,
-    leg: u8,
-) -> Result<SharedLadder, Memory>
-    ensures { IfOk result (λ ladder. ladder
-        ≡ lifted (top_of file.now) (held bookings.now flight leg) (waiting bookings.now flight leg) wanted.now) }
-{
-    let lifted = lifted_for(top_of(file.get()), wanted, bookings, flight, leg);
-    shared(alloc, file, lifted)
-}
-
-/// The file's limits, lifted: nearly all have room as they are, and are the file's very ones, whose memory is shared.
+/// The file's limits, lifted: nearly all have room as they are.
 #[tactic(auto, using(crate::proofs::Unlifted::roomy_file))]
-fn lifted_file(
-    alloc: Global,
-    file: &SharedLadder,
-    bookings: &[Booking],
-    flight: u32,
-    leg: u8,
-) -> Result<SharedLadder, Memory>
-    ensures { IfOk result (λ ladder. ladder
-        ≡ lifted (top_of file.now) (held bookings.now flight leg) (waiting bookings.now flight leg) file.now) }
+fn lifted_file(file: &Ladder, bookings: &[Booking], flight: u32, leg: u8) -> Option<Ladder>
+    ensures { unwrap_or result file.now
+        ≡ lifted (top_of file.now) (held bookings.now flight leg) (waiting bookings.now flight leg) file.now }
 {
-    if has_room(file.get().steps(), bookings, flight, leg) {
-        let ladder = file.again()?;
-        return Ok(ladder);
+    if has_room(file.steps(), bookings, flight, leg) {
+        return None;
     }
-    lifted_wanted(alloc, file, file.get(), bookings, flight, leg)
+    Some(lifted_for(top_of(file), file, bookings, flight, leg))
+}
+
+/// The lifted ladder, where it is not the file's.
+fn ladder_or<'a>(lifted: &'a Option<Ladder>, file: &'a Ladder) -> &'a Ladder
+    ensures { result.now ≡ unwrap_or lifted.now file.now }
+{
+    match lifted {
+        Some(ladder) => ladder,
+        None => file,
+    }
 }
 
 /// The limit of the highest rank.
@@ -155,17 +148,6 @@ pub(crate) fn top_of(ladder: &Ladder) -> u16
     match ladder.steps() {
         [step, ..] => step.limit,
         [] => 0,
-    }
-}
-
-/// A ladder as a leg has it: nearly all are the file's very ones, whose memory is shared.
-fn shared(alloc: Global, file: &SharedLadder, ladder: Ladder) -> Result<SharedLadder, Memory>
-    ensures { IfOk result (λ shared. shared ≡ ladder) }
-{
-    if is_very(file.get().steps(), ladder.steps()) {
-        file.again()
-    } else {
-        SharedLadder::of(alloc, ladder)
     }
 }
 

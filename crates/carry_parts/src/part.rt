@@ -21,7 +21,7 @@ pub fn has_flight(part: Part, flights: &Flights, flight: u32) -> bool
     if flight >= flights.len() {
         return false;
     }
-    has_flown(part, flights.flight(flight))
+    has_flown(part, &flights.flight(flight))
 }
 
 fn has_flown(part: Part, flight: &Flight) -> bool

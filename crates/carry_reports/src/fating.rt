@@ -1,10 +1,10 @@
 //! What became of live bookings.
 //! It knows no text.
-ghost use Rattle.std.specs.Prelude.{◌≡◌, ◌++◌, ◌∷◌, [], IfOk, OnOk, slice_get};
+ghost use Rattle.std.specs.Prelude.{◌≡◌, ◌+◌, ◌++◌, ◌∷◌, [], IfOk, OnOk, slice_get};
 ghost use Rattle.seat_rules.specs.Flights.{bookings_on};
 ghost use Rattle.seat_rules.specs.Inventory.{state_now};
 ghost use Rattle.season_changes.specs.Differing.{same_legs, times_differ};
-ghost use Rattle.carry_reports.specs.Fates.{asked_fate, fate_by, fates, has_changed, is_elsewhere, is_other_name, legs_at, next_of, outcome_in, outcome_of, unasked_fate};
+ghost use Rattle.carry_reports.specs.Fates.{asked_fate, fate_by, fates, has_changed, is_elsewhere, is_other_name, legs_between, legs_by, next_of, outcome_in, outcome_of, unasked_fate};
 
 use airline_base::{Class, Day, Memory, Place};
 use carry_order::Numbered;
@@ -12,7 +12,7 @@ use season_changes::{same_legs, times_differ};
 use seat_core::Core;
 use seat_moving::{Target, name_of, target_of};
 use seat_rules::{Booking, Status};
-use ssim_flights::{DatedLeg, Flights, Served, Wanted};
+use ssim_flights::{DatedLeg, Flight, Flights, Served, Wanted};
 use std::alloc::Global;
 
 /// What live bookings were carried from and to.
@@ -220,18 +220,33 @@ fn is_other_name(old: Option<Wanted>, new: Option<Wanted>) -> bool
 fn has_changed(carried: &Carried<'_>, old: Place, new: Place) -> bool
     ensures { result ≡ has_changed carried.now old new }
 {
-    let (legs, others) = (legs_at(carried.olds, old), legs_at(carried.news, new));
+    let (was, is) = (
+        flight_at(carried.olds, old.flight),
+        flight_at(carried.news, new.flight),
+    );
+    let (legs, others) = (legs_on(&was, old), legs_on(&is, new));
     !same_legs(legs, others) || times_differ(legs, others)
 }
 
-/// The legs of a place; none where the flights have no such place.
-fn legs_at(flights: &Flights, place: Place) -> &[DatedLeg]
-    ensures { result.now ≡ legs_at flights.now place }
+/// The flight of this number; none where it is not there.
+fn flight_at(flights: &Flights, number: u32) -> Option<Flight>
+    ensures { result ≡ slice_get flights.now number }
 {
-    if place.flight >= flights.len() {
-        return &[];
+    if number < flights.len() {
+        Some(flights.flight(number))
+    } else {
+        None
     }
-    let legs = flights.flight(place.flight).legs.as_slice();
+}
+
+/// The legs of a place on its flight; none where the flight has no such place.
+fn legs_on(flight: &Option<Flight>, place: Place) -> &[DatedLeg]
+    ensures { result.now ≡ legs_between place.from (place.to + 1) (legs_by flight.now) }
+{
+    let Some(flight) = flight else {
+        return &[];
+    };
+    let legs = flight.legs.as_slice();
     let (from, end) = (usize::from(place.from), usize::from(place.to) + 1);
     if end <= from || legs.len() < end {
         return &[];

@@ -122,7 +122,7 @@ fn flight_lines<S: Seats>(
     let numbers = days.on(look.day);
     for index in numbers {
         let flight = flights.flight(*index);
-        let line = flight_line(alloc, served, seats, look, *index, flight)?;
+        let line = flight_line(alloc, served, seats, look, *index, &flight)?;
         put(&mut text, line.as_slice())?;
     }
     Ok(text)

@@ -26,13 +26,8 @@ pub(crate) fn closings<D: Tape>(
 {
     let mut all = Vec::new(alloc);
     for number in 0..flights.len() {
-        put_legs(
-            &mut all,
-            flights.flight(number).legs.as_slice(),
-            serving,
-            today,
-            number,
-        )?;
+        let flight = flights.flight(number);
+        put_legs(&mut all, flight.legs.as_slice(), serving, today, number)?;
     }
     Ok(all)
 }

@@ -129,7 +129,7 @@ fn put_leg(line: &mut Line, flights: &Flights, flight: u32, leg: u8)
     ensures len { length line.new.items ≤ length line.old.items + 32 }
 {
     if flight < flights.len() {
-        put_leg_of(line, flights.flight(flight), leg);
+        put_leg_of(line, &flights.flight(flight), leg);
     } else {
         put_no_leg(line);
     }

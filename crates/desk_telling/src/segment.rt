@@ -16,7 +16,7 @@ pub fn segment_of(flights: &Flights, command: &Command) -> Option<Segment>
     if place.flight >= flights.len() {
         return None;
     }
-    segment_on(flights.flight(place.flight), place, command)
+    segment_on(&flights.flight(place.flight), place, command)
 }
 
 fn segment_on(flight: &Flight, place: Place, command: &Command) -> Option<Segment>

@@ -43,7 +43,14 @@ pub fn legs_by(
 {
     let mut all = Vec::new(alloc);
     for index in 0..flights.len() {
-        add_flight(&mut all, served, asked, named, index, flights.flight(index))?;
+        add_flight(
+            &mut all,
+            served,
+            asked,
+            named,
+            index,
+            &flights.flight(index),
+        )?;
     }
     Ok(all)
 }
@@ -54,7 +61,7 @@ pub fn every_leg(alloc: Global, flights: &Flights) -> Result<Vec<NamedLeg>, Allo
 {
     let mut all = Vec::new(alloc);
     for index in 0..flights.len() {
-        add_each(&mut all, index, flights.flight(index))?;
+        add_each(&mut all, index, &flights.flight(index))?;
     }
     Ok(all)
 }

@@ -51,7 +51,7 @@ fn add_numbered(
         ++ shown_from (shown asked.now (state_now core.now) class leg) 0 flights.now) }
 {
     for index in 0..flights.len() {
-        add_shown(all, core, asked, class, leg, index, flights.flight(index))?;
+        add_shown(all, core, asked, class, leg, index, &flights.flight(index))?;
     }
     Ok(())
 }

@@ -65,7 +65,8 @@ fn start_groups(alloc: Global, first: u32, flights: &Flights) -> Result<Vec<u32>
 {
     let mut starts = Vec::new(alloc);
     for index in 0..flights.len() {
-        starts.push(start_group(first, flights.flight(index).legs.as_slice()))?;
+        let flight = flights.flight(index);
+        starts.push(start_group(first, flight.legs.as_slice()))?;
     }
     Ok(starts)
 }

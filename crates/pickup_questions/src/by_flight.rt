@@ -62,7 +62,7 @@ fn put_flights(
     ensures { OnOk result (ArePut flight_names (flight_rows flights.now moved.now.all.now) sheet.old sheet.new) }
 {
     for index in 0..flights.len() {
-        put_flight(alloc, sheet, moved, index, flights.flight(index))?;
+        put_flight(alloc, sheet, moved, index, &flights.flight(index))?;
     }
     Ok(())
 }

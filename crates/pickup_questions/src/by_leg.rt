@@ -102,7 +102,7 @@ fn put_flights(
             lines,
             asked,
             index,
-            flights.flight(index),
+            &flights.flight(index),
         )?;
     }
     Ok(())

@@ -18,7 +18,8 @@ pub fn pairs_of(alloc: Global, flights: &Flights) -> Result<Vec<CityPair>, Memor
 {
     let mut pairs = Vec::new(alloc);
     for index in 0..flights.len() {
-        add_places(&mut pairs, flights.flight(index).legs.as_slice())?;
+        let flight = flights.flight(index);
+        add_places(&mut pairs, flight.legs.as_slice())?;
     }
     Ok(pairs)
 }

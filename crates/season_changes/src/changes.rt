@@ -7,7 +7,9 @@ ghost use Rattle.season_changes.specs.Changes.{change_of, changes_of, each_from,
 ghost use Rattle.season_changes.specs.Naming.{AreNumbersOf};
 
 use crate::comparing::Comparison;
-use crate::differing::{What, differing, ladders_differ, legs_at, same_legs, times_differ};
+use crate::differing::{
+    What, differing, flight_at, ladders_differ, legs_by, same_legs, times_differ,
+};
 use crate::naming::{Name, name_on, number_of, numbers_of};
 use crate::seats::{held_on, waiting_on};
 use airline_base::{Airline, Day, Memory};
@@ -61,7 +63,7 @@ fn add_olds(
         ++ each_from (of_old asked.now core.now.grid (state_now core.now).bookings) 0 flights.now) }
 {
     for i in 0..flights.len() {
-        add_old(all, asked, core, numbers, i, flights.flight(i))?;
+        add_old(all, asked, core, numbers, i, &flights.flight(i))?;
     }
     Ok(())
 }
@@ -149,7 +151,8 @@ fn what_becomes(
         return Some(What::Gone);
     };
     let legs = flight.legs.as_slice();
-    let others = legs_at(asked.flights, k);
+    let other = flight_at(asked.flights, k);
+    let others = legs_by(&other);
     differing(
         !same_legs(legs, others),
         times_differ(legs, others),
@@ -169,7 +172,7 @@ fn add_news(
         ++ each_from (λ i. of_new asked.now _flights.now) 0 asked.now.flights.now) }
 {
     for i in 0..asked.flights.len() {
-        add_new(all, asked, _flights, numbers, asked.flights.flight(i))?;
+        add_new(all, asked, _flights, numbers, &asked.flights.flight(i))?;
     }
     Ok(())
 }

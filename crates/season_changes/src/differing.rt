@@ -1,10 +1,10 @@
 //! In what a flight of an old season and the one of its name in a new season differ.
 //! It knows neither who is on them nor which days both seasons have.
-ghost use Rattle.std.specs.Prelude.{◌≡◌, ◌≤◌, ◌+◌, length};
-ghost use Rattle.season_changes.specs.Differing.{differing, ladders_differ, legs_at, same_ladder, same_leg, same_legs, same_step, times_differ};
+ghost use Rattle.std.specs.Prelude.{◌≡◌, ◌≤◌, ◌+◌, length, slice_get};
+ghost use Rattle.season_changes.specs.Differing.{differing, ladders_differ, legs_by, same_ladder, same_leg, same_legs, same_step, times_differ};
 
 use seat_nesting::{Grid, Step};
-use ssim_flights::{DatedLeg, Flights};
+use ssim_flights::{DatedLeg, Flight, Flights};
 
 /// What becomes of a flight.
 #[derive(Clone, Copy)]
@@ -41,14 +41,24 @@ pub(crate) fn differing(legs: bool, times: bool, limits: bool) -> Option<What>
     }
 }
 
-/// The legs of flight `k`; none where it is not there.
-pub(crate) fn legs_at(flights: &Flights, k: u32) -> &[DatedLeg]
-    ensures { result.now ≡ legs_at flights.now k }
+/// Flight `k`; none where it is not there.
+pub(crate) fn flight_at(flights: &Flights, k: u32) -> Option<Flight>
+    ensures { result ≡ slice_get flights.now k }
 {
     if k < flights.len() {
-        flights.flight(k).legs.as_slice()
+        Some(flights.flight(k))
     } else {
-        &[]
+        None
+    }
+}
+
+/// The legs of a flight; none where it is not there.
+pub(crate) fn legs_by(flight: &Option<Flight>) -> &[DatedLeg]
+    ensures { result.now ≡ legs_by flight.now }
+{
+    match flight {
+        Some(flight) => flight.legs.as_slice(),
+        None => &[],
     }
 }
 

@@ -42,7 +42,7 @@ pub(crate) fn numbers_of(alloc: Global, flights: &Flights) -> Result<HashMap<Nam
     let mut n = flights.len();
     while n > 0 {
         n -= 1;
-        put_flight(&mut numbers, flights.flight(n), n)?;
+        put_flight(&mut numbers, &flights.flight(n), n)?;
     }
     Ok(numbers)
 }

@@ -67,7 +67,7 @@ pub fn messages(
 {
     let mut all = Vec::new(alloc);
     for index in 0..flights.len() {
-        add_flight(&mut all, served, core, asked, index, flights.flight(index))?;
+        add_flight(&mut all, served, core, asked, index, &flights.flight(index))?;
     }
     Ok(all)
 }

@@ -1,3 +1,4 @@
+pub mod Hashing
 pub mod Live
 pub mod Numbers
 pub mod Queues

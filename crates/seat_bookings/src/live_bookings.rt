@@ -1,8 +1,12 @@
 //! The live bookings of a flight, with an index where there are many.
 ghost use Rattle.std.specs.Prelude.{◌≡◌, ◌==◌, ◌≤◌, ◌<◌, ◌++◌, ◌∷◌, [], position, true, OnOk, IfOk, Some, None};
 ghost use Rattle.std.specs.HashMap.{spare};
+ghost use Rattle.std.specs.Hash as fed;
+ghost use Rattle.std.specs.Cmp.Rules.{hashing};
+ghost use Rattle.std.proofs.Common.{rules};
 ghost use Rattle.seat_rules.specs.Applying.{confirmed_at, IsOrdered};
 ghost use Rattle.seat_rules.specs.Bookings.{is_for};
+ghost use Rattle.seat_bookings.specs.Hashing.{key_number};
 ghost use Rattle.seat_bookings.specs.Live.{key_for, key_of, has_place, AreLive, IsListed, IsNumbersOf, PutsNumber, PutsWhere};
 ghost use Rattle.seat_bookings.specs.Numbers.{SameIndex, SameNumbers};
 ghost use Rattle.seat_bookings.specs.Queues.{first_waits};
@@ -15,19 +19,42 @@ use seat_journal::Command;
 use seat_rules::{Booking, Status};
 use std::alloc::Global;
 use std::collections::HashMap;
+use std::hash::{Hash, Hasher};
 use std::marker::Model;
 
 // So many bookings are looked through as fast as an index answers.
 const FEW: usize = 16;
 
 /// What no two live bookings have in common: the locator, place and class.
-#[derive(Clone, Copy, PartialEq, Eq, Hash)]
+#[derive(Clone, Copy, PartialEq, Eq)]
 pub struct Key {
     pub locator: [u8; 6],
     pub flight: u32,
     pub from: u8,
     pub to: u8,
     pub class: u8,
+}
+
+impl Key {
+    fn as_number(&self) -> u128
+        ensures { result ≡ key_number self.now }
+    {
+        let l = &self.locator;
+        let low = u64::from_le_bytes([l[0], l[1], l[2], l[3], l[4], l[5], self.from, self.to]);
+        let high = u128::from(self.flight) + 4_294_967_296 * u128::from(self.class);
+        u128::from(low) + 18_446_744_073_709_551_616 * high
+    }
+}
+
+/// The fields are hashed as one number, since each write to a hasher costs.
+impl Hash for Key {
+    ghost hash_input = { λ k. fed.u128 (key_number k) };
+
+    ghost respects_eq = { Prim.search (hashing, rules) };
+
+    fn hash<H: Hasher>(&self, state: &mut H) {
+        state.write_u128(self.as_number());
+    }
 }
 
 type Numbers = HashMap<Key, u32>;

@@ -1,49 +1,42 @@
 -- Grids of ladders.
 use Rattle.std.proofs.Common.{◌≡◌, ℕ, zero, suc, ◌+◌, ◌<◌, Bool, true, false, cond, List, [], ◌∷◌, ◌++◌, length, map, fold, take, get_or, Option, Some, sym, ap, subst, ◌∙◌}
+use Rattle.std.specs.Prelude.{OnOk, Result, Ok, Err}
 use Rattle.std.specs.List.{AllByRecursion, slice_get}
 use Rattle.std.specs.Str.Lines.{lines}
 use Rattle.std.proofs.lemmas.List.{map-append, length-map, get_or-map, take_more}
 use Rattle.std.proofs.lemmas.Option.{slice_get_within, get_or_from_slice_get}
 use Rattle.ssim_flights.specs.declared.flight.DatedLeg.{DatedLeg}
 use Rattle.ssim_flights.specs.declared.flight.Flight.{Flight}
-use Rattle.seat_nesting.proofs.CountChanges.{each_push}
 use Rattle.seat_limits.specs.Authorised.{after_row, authorised, authorised_grid, is_for, leg_pair}
 use Rattle.seat_limits.specs.LimitRows.{IsLimitText, SpellsRows}
-use Rattle.seat_nesting.specs.Nesting.{Steps, Ladders, steps_of, steps_at, IsDistinct, HasLadders}
+use Rattle.seat_nesting.specs.Nesting.{Steps, Ladders, steps_at, IsDistinct, HasLadders}
+use Rattle.seat_nesting.specs.Planning.{Planned, with_flight}
 use Rattle.seat_limits.specs.declared.limit_row.LimitRow.{LimitRow}
 use Rattle.seat_limits.specs.declared.row_index.Pair.{Pair}
 
 -- one leg more
-pub legs_more : (ladders : List (Option Steps)) (o : Option Steps) (legs : List DatedLeg) (f : DatedLeg → Steps) (i : ℕ)
-    (leg : DatedLeg) → map steps_of ladders ≡ take i (map f legs) → i < length legs → leg ≡ get_or legs i leg
-    → steps_of o ≡ f leg
-    → map steps_of (ladders ++ o ∷ []) ≡ take (i + 1) (map f legs)
-legs_more ladders o legs f i leg h lt is e =
-    map-append steps_of ladders (o ∷ []) ∙ ap (λ (s : List Steps). s ++ steps_of o ∷ []) h ∙ ap (λ (s : Steps). take i (map f legs) ++ s ∷ []) (e ∙ ap f is ∙ sym (get_or-map f legs i leg (f leg) lt))
+pub legs_more : (so_far : List Steps) (steps : Steps) (legs : List DatedLeg) (f : DatedLeg → Steps) (i : ℕ) (leg : DatedLeg)
+    → so_far ≡ take i (map f legs) → i < length legs → leg ≡ get_or legs i leg → steps ≡ f leg
+    → so_far ++ steps ∷ [] ≡ take (i + 1) (map f legs)
+legs_more so_far steps legs f i leg h lt is e =
+    ap (λ (s : List Steps). s ++ steps ∷ []) h ∙ ap (λ (s : Steps). take i (map f legs) ++ s ∷ []) (e ∙ ap f is ∙ sym (get_or-map f legs i leg (f leg) lt))
     ∙ sym (take_more (map f legs) i (f leg) (rw length-map lt))
 
-pub distinct_more : (ladders : List (Option Steps)) (o : Option Steps)
-    → ((leg : ℕ) → IsDistinct (steps_at (map steps_of ladders) leg)) → IsDistinct (steps_of o) → (leg : ℕ)
-    → IsDistinct (steps_at (map steps_of (ladders ++ o ∷ [])) leg)
-distinct_more ladders o all here =
-    let P : List Steps → Type 0 = λ legs. (leg : ℕ) → IsDistinct (steps_at legs leg) in
-    subst P (sym (map-append steps_of ladders (o ∷ []))) (each_push (map steps_of ladders) (steps_of o) [] (λ (steps : Steps). IsDistinct steps) all here)
-
 -- one flight more
-pub flights_more : (grid : Ladders) (legs : List Steps) (flights : List Flight) (f : Flight → List Steps) (i : ℕ)
-    (flight : Flight) → grid ≡ map f (take i flights) → slice_get flights i ≡ Some flight → legs ≡ f flight
-    → grid ++ legs ∷ [] ≡ map f (take (i + 1) flights)
-flights_more grid legs flights f i flight h at e =
+pub flights_more : (grid more : Ladders) (flights : List Flight) (f : Flight → List Steps) (i : ℕ)
+    (flight : Flight) → grid ≡ map f (take i flights) → slice_get flights i ≡ Some flight → more ≡ grid ++ f flight ∷ []
+    → more ≡ map f (take (i + 1) flights)
+flights_more grid more flights f i flight h at e =
     let lt = slice_get_within flights i flight at in
-    ap (λ (g : Ladders). g ++ legs ∷ []) h ∙ ap (λ (l : List Steps). map f (take i flights) ++ l ∷ []) (e ∙ ap f (sym (get_or_from_slice_get flights i flight flight at)))
+    e ∙ ap (λ (g : Ladders). g ++ f flight ∷ []) h ∙ ap (λ (l : List Steps). map f (take i flights) ++ l ∷ []) (ap f (sym (get_or_from_slice_get flights i flight flight at)))
     ∙ sym (map-append f (take i flights) (get_or flights i flight ∷ [])) ∙ ap (map f) (sym (take_more flights i flight lt))
 
-pub ladders_more : (grid : Ladders) (legs : List Steps) → HasLadders grid → ((leg : ℕ) → IsDistinct (steps_at legs leg))
-    → HasLadders (grid ++ legs ∷ [])
-ladders_more grid legs all here = each_push grid legs [] (λ (l : List Steps). (leg : ℕ) → IsDistinct (steps_at l leg)) all here
-
-pub built_ladders : HasLadders []
-built_ladders flight leg = tt
+-- the next flight is closed
+pub closed_more : {T E : Type 0} (r : Result T E) (old mid new : Planned) (legs : List Steps) → mid.flights ≡ old.flights → mid.legs ≡ legs
+    → OnOk r (new ≡ with_flight mid) → OnOk r (new.flights ≡ old.flights ++ legs ∷ [])
+closed_more (Ok x) old mid new legs flights its is =
+    ap (λ (p : Planned). p.flights) is ∙ ap (λ (g : Ladders). g ++ mid.legs ∷ []) flights ∙ ap (λ (l : List Steps). old.flights ++ l ∷ []) its
+closed_more (Err e) old mid new legs flights its is = tt
 
 -- ---- the grid that limit rows give
 

@@ -1,27 +1,69 @@
--- Ladders that legs share.
-use Rattle.std.proofs.Common.{◌≡◌, ℕ, zero, suc, List, [], ◌∷◌, ◌++◌, length, Option, Some, None}
-use Rattle.std.specs.List.{slice_get}
-use Rattle.seat_nesting.specs.Nesting.{Steps}
-use Rattle.seat_limits.specs.Authorised.{AreShares}
+-- Ladders that legs share, by the numbers that stand beside their rows.
+use Rattle.std.proofs.Common.{◌≡◌, ◌==◌, ◌<◌, ℕ, zero, suc, Bool, true, false, if◌then◌else◌, List, [], ◌∷◌, ◌++◌, length, Option, Some, None, replicate, set, get_or, unwrap_or, refl, ap, sym, subst, ◌∙◌, arith}
+use Rattle.std.proofs.lemmas.Bool.{eqb-true}
+use Rattle.std.proofs.lemmas.List.{length-replicate, length-set}
+use Rattle.std.proofs.lemmas.Option.{slice_get-get_or}
+use Rattle.seat_nesting.specs.Nesting.{Steps, steps_at}
+use Rattle.seat_nesting.specs.FlatCounts.{Grows}
+use Rattle.seat_nesting.proofs.CountChanges.{at_set}
+use Rattle.seat_nesting.proofs.Layouts.{grows_one, there_one}
+use Rattle.seat_limits.specs.Authorised.{AreNumbers, number_at, row_steps}
 use Rattle.seat_limits.specs.declared.limit_row.LimitRow.{LimitRow}
 
--- nothing stands in the list
-abbrev pub AreNone : {X : Type 0} → List (Option X) → Type 0
-AreNone [] = Unit {0}
-AreNone (None ∷ rest) = AreNone rest
-AreNone (Some x ∷ rest) = ⊥
+-- nothing stands there yet
+none_at : (n i : ℕ) → number_at (replicate n None) i ≡ None
+none_at zero i = refl
+none_at (suc n) zero = refl
+none_at (suc n) (suc i) = none_at n i
 
-pub none_more : {X : Type 0} (xs : List (Option X)) → AreNone xs → AreNone (xs ++ None ∷ [])
-none_more [] h = tt
-none_more (None ∷ rest) h = none_more rest h
-none_more (Some x ∷ rest) h = absurd h
+pub no_numbers : (rows : List LimitRow) (numbers : List (Option ℕ)) → numbers ≡ replicate (length rows) None
+    → AreNumbers numbers rows []
+no_numbers rows numbers is = record {
+  counted = ap length is ∙ length-replicate {A = Option ℕ} (length rows) None;
+  each = λ i k at. (let no : None ≡ Some k = sym (ap (λ (l : List (Option ℕ)). number_at l i) is ∙ none_at (length rows) i) ∙ at in absurd cc);
+}
 
-no_some : {X : Type 0} (xs : List (Option X)) (i : ℕ) (x : X) → AreNone xs → slice_get xs i ≡ Some (Some x) → ⊥
-no_some [] i x h e = cc
-no_some (None ∷ rest) zero x h e = cc
-no_some (None ∷ rest) (suc i) x h e = no_some rest i x h e
-no_some (Some y ∷ rest) i x h e = h
+-- the ladder of a row is put, and its number stands beside the row
+pub put_number : (numbers : List (Option ℕ)) (rows : List LimitRow) (ladders after : List Steps) (i number : ℕ) (ladder : Steps)
+    → AreNumbers numbers rows ladders → i < length rows → number ≡ length ladders → after ≡ ladders ++ ladder ∷ []
+    → ladder ≡ row_steps rows (Some i) → AreNumbers (set numbers i (Some number)) rows after
+put_number numbers rows ladders after i number ladder are inside at after_is is = record {
+  counted = length-set numbers i (Some number) ∙ are.counted;
+  each = λ j k e. of j k (j == i) refl e;
+}
+  where
+    one : (number < length after) × (steps_at after number ≡ row_steps rows (Some i))
+    one =
+        subst (λ (l : List Steps). (number < length l) × (steps_at l number ≡ row_steps rows (Some i))) (sym after_is)
+        (there_one ladders ladder (row_steps rows (Some i)) number at is)
 
-pub none_shared : (shares : List (Option Steps)) (rows : List LimitRow) → AreNone shares → length shares ≡ length rows
-    → AreShares shares rows
-none_shared shares rows none counted = record { counted = counted; each = λ i steps at. absurd (no_some shares i steps none at) }
+    grows : Grows ladders after
+    grows = subst (λ (l : List Steps). Grows ladders l) (sym after_is) (grows_one ladders ladder)
+
+    written : (j : ℕ) (b : Bool) → (j == i) ≡ b
+        → number_at (set numbers i (Some number)) j ≡ (if b then Some number else number_at numbers j)
+    written j b h =
+        at_set numbers i j (Some number) None (omega (arith, inside, are.counted))
+        ∙ ap (λ (t : Bool). if t then Some number else number_at numbers j) h
+
+    of : (j k : ℕ) (b : Bool) → (j == i) ≡ b → number_at (set numbers i (Some number)) j ≡ Some k
+        → (k < length after) × (steps_at after k ≡ row_steps rows (Some j))
+    of j k true h e =
+        let same : Some number ≡ Some k = sym (written j true h) ∙ e in
+        let row : j ≡ i = eqb-true j i h in
+        subst (λ (n : ℕ). (n < length after) × (steps_at after n ≡ row_steps rows (Some j))) (cc)
+        (subst (λ (r : ℕ). (number < length after) × (steps_at after number ≡ row_steps rows (Some r))) (sym row) one)
+    of j k false h e =
+        let old = are.each j k (sym (written j false h) ∙ e) in
+        let few = old.0 in
+        let le = grows.longer in
+        (omega (arith, few, le), grows.same k old.0 ∙ old.1)
+
+pub put_steps : (ladders after : List Steps) (number : ℕ) (ladder : Steps) → number ≡ length ladders
+    → after ≡ ladders ++ ladder ∷ [] → steps_at after number ≡ ladder
+put_steps ladders after number ladder at is = ap (λ (l : List Steps). steps_at l number) is ∙ (there_one ladders ladder ladder number at refl).1
+
+-- the number that stands beside a row
+pub found_number : (numbers : List (Option ℕ)) (i k : ℕ) (found : Option ℕ) → i < length numbers
+    → found ≡ get_or numbers i found → found ≡ Some k → number_at numbers i ≡ Some k
+found_number numbers i k found inside is some = ap (λ (o : Option (Option ℕ)). unwrap_or o None) (slice_get-get_or numbers i found inside) ∙ sym is ∙ some

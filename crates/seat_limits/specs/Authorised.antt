@@ -7,7 +7,7 @@ use Rattle.std.specs.declared.hash.FoldHasher.{FoldHasher}
 use Rattle.std.specs.declared.hash.BuildHasherDefault.{BuildHasherDefault}
 use Rattle.ssim_flights.specs.declared.flight.DatedLeg.{DatedLeg}
 use Rattle.ssim_flights.specs.declared.flight.Flight.{Flight}
-use Rattle.seat_nesting.specs.Nesting.{Steps, Ladders}
+use Rattle.seat_nesting.specs.Nesting.{Steps, Ladders, steps_at}
 use Rattle.seat_limits.specs.declared.limit_row.LimitRow.{LimitRow}
 use Rattle.seat_limits.specs.declared.row_index.Pair.{Pair}
 
@@ -90,7 +90,12 @@ abbrev pub row_steps : List LimitRow → Option ℕ → Steps
 row_steps rows None = []
 row_steps rows (Some i) = unwrap_or (option_map (λ (row : LimitRow). row.ladder) (slice_get rows i)) []
 
--- beside each row its ladder, or nothing yet
-pub record AreShares (shares : List (Option Steps)) (rows : List LimitRow) : Type 0 where
-  pub counted : length shares ≡ length rows
-  pub each : (i : ℕ) (steps : Steps) → slice_get shares i ≡ Some (Some steps) → steps ≡ row_steps rows (Some i)
+-- what stands beside a row
+abbrev pub number_at : List (Option ℕ) → ℕ → Option ℕ
+number_at numbers i = unwrap_or (slice_get numbers i) None
+
+-- beside each row the number of its ladder among these, or nothing yet
+pub record AreNumbers (numbers : List (Option ℕ)) (rows : List LimitRow) (ladders : List Steps) : Type 0 where
+  pub counted : length numbers ≡ length rows
+  pub each : (i k : ℕ) → number_at numbers i ≡ Some k
+      → (k < length ladders) × (steps_at ladders k ≡ row_steps rows (Some i))

@@ -1,6 +1,7 @@
 pub mod Authorised
 pub mod ChangeRows
 pub mod FaultText
+pub mod Hashing
 pub mod LadderText
 pub mod LimitRows
 pub mod RowFields

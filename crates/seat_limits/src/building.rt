@@ -1,13 +1,13 @@
 //! The grid that limit rows give to dated flights.
-ghost use Rattle.std.specs.Prelude.{◌≡◌, ◌<◌, ℕ, length, Some, IfOk, OnOk, IfSome};
-ghost use Rattle.seat_nesting.specs.Nesting.{HasLadders, IsDistinct, steps_at, steps_of};
-ghost use Rattle.seat_limits.specs.Authorised.{authorised, authorised_grid, authorised_legs, row_steps, AreShares};
+ghost use Rattle.std.specs.Prelude.{◌≡◌, ◌<◌, ◌++◌, ◌∷◌, [], length, IfOk, OnOk, IfSome};
+ghost use Rattle.seat_nesting.specs.Planning.{steps_in};
+ghost use Rattle.seat_limits.specs.Authorised.{authorised, authorised_grid, authorised_legs, row_steps, AreNumbers};
 ghost use Rattle.seat_limits.specs.RowStretches.{AllKnow, IsRowIndex};
 
 use crate::limit_row::LimitRow;
 use crate::row_index::{Near, Pair, RowIndex, leg_pair_of};
 use airline_base::{Day, Memory};
-use seat_nesting::{FlightLegs, Grid, SharedLadder};
+use seat_nesting::{Grid, GridPlan};
 use ssim_flights::{Flight, Flights};
 use std::alloc::Global;
 
@@ -19,74 +19,69 @@ pub fn build_grid(alloc: Global, flights: &Flights, rows: &[LimitRow]) -> Result
     let Ok(index) = RowIndex::new(alloc, rows) else {
         return Err(Memory);
     };
-    let Ok(grid) = legs_of_all(alloc, flights, rows, &index) else {
+    let Ok(plan) = plan_of(alloc, flights, rows, &index) else {
         return Err(Memory);
     };
-    Grid::of(alloc, grid)
+    Grid::of(alloc, plan)
 }
 
 /// The ladders of each flight's legs.
-fn legs_of_all(
+fn plan_of(
     alloc: Global,
     flights: &Flights,
     rows: &[LimitRow],
     index: &RowIndex,
-) -> Result<Vec<FlightLegs>, Memory>
+) -> Result<GridPlan, Memory>
     requires { IsRowIndex index.now.last index.now.edges.items index.now.found.items rows.now }
-    ensures legs { IfOk result (λ grid. grid.items ≡ authorised_grid rows.now flights.now) }
-    ensures distinct { IfOk result (λ grid. HasLadders grid.items) }
+    ensures flights { IfOk result (λ plan. plan.flights ≡ authorised_grid rows.now flights.now) }
+    ensures closed { IfOk result (λ plan. plan.legs ≡ []) }
 {
-    let Ok(mut shares) = no_shares(alloc, rows) else {
+    let Ok(mut numbers) = no_numbers(alloc, rows) else {
         return Err(Memory);
     };
-    let Ok(mut grid) = Vec::with_capacity(alloc, flights.len() as usize) else {
+    let Ok(mut plan) = GridPlan::new(alloc, flights.len() as usize) else {
         return Err(Memory);
     };
     let mut nears = [Near::nothing(); 8];
     for i in 0..flights.len() {
         let flight = flights.flight(i);
-        let Ok(legs) = legs_of(alloc, flight, rows, index, &mut nears, &mut shares) else {
-            return Err(Memory);
-        };
-        let Ok(()) = grid.push(legs) else {
+        let Ok(()) = add_flight(&mut plan, &flight, rows, index, &mut nears, &mut numbers) else {
             return Err(Memory);
         };
     }
-    Ok(grid)
+    Ok(plan)
 }
 
-/// The ladders of a flight's legs.
-fn legs_of(
-    alloc: Global,
+/// Adds a flight with the ladders of its legs.
+fn add_flight(
+    plan: &mut GridPlan,
     flight: &Flight,
     rows: &[LimitRow],
     index: &RowIndex,
     nears: &mut [Near],
-    shares: &mut Vec<Option<SharedLadder>>,
-) -> Result<FlightLegs, Memory>
+    numbers: &mut Vec<Option<u32>>,
+) -> Result<(), Memory>
+    requires closed { plan.old.legs ≡ [] }
     requires nears { AllKnow index.now.last nears.old }
     requires index { IsRowIndex index.now.last index.now.edges.items index.now.found.items rows.now }
-    requires shares { AreShares shares.old.items rows.now }
-    ensures legs { IfOk result (λ legs. legs ≡ authorised_legs rows.now flight.now) }
-    ensures distinct { IfOk result (λ legs. (leg : ℕ) → IsDistinct (steps_at legs leg)) }
-    ensures shares { OnOk result (AreShares shares.new.items rows.now) }
+    requires numbers { AreNumbers numbers.old.items rows.now plan.old.ladders }
+    ensures flights { OnOk result (plan.new.flights ≡ plan.old.flights ++ authorised_legs rows.now flight.now ∷ []) }
+    ensures closed { OnOk result (plan.new.legs ≡ []) }
+    ensures numbers { OnOk result (AreNumbers numbers.new.items rows.now plan.new.ladders) }
     ensures nears { AllKnow index.now.last nears.new }
 {
-    let Ok(mut ladders) = Vec::with_capacity(alloc, flight.legs.len()) else {
-        return Err(Memory);
-    };
     let legs = flight.legs.as_slice();
     for j in 0..legs.len() {
         let leg = &legs[j];
         let row = row_of(index, rows, nears, j, leg_pair_of(flight, leg), leg.day);
-        let Ok(ladder) = shared_of(alloc, rows, shares, row) else {
+        let Ok(number) = number_of(plan, rows, numbers, row) else {
             return Err(Memory);
         };
-        let Ok(()) = ladders.push(ladder) else {
+        let Ok(()) = plan.add_leg(number) else {
             return Err(Memory);
         };
     }
-    Ok(FlightLegs::of(ladders))
+    plan.close_flight()
 }
 
 /// The row of a leg, looked for where that of the leg at the same place of the flight ahead was found: most often that flight is the
@@ -111,63 +106,42 @@ fn row_of(
     index.row(rows, &mut nears[place], pair, day)
 }
 
-/// Room for the ladder of each row.
-fn no_shares(alloc: Global, rows: &[LimitRow]) -> Result<Vec<Option<SharedLadder>>, Memory>
-    ensures { IfOk result (λ shares. AreShares shares.items rows.now) }
+/// Room for the number of each row's ladder.
+#[tactic(auto, using(crate::proofs::Sharing::no_numbers))]
+fn no_numbers(alloc: Global, rows: &[LimitRow]) -> Result<Vec<Option<u32>>, Memory>
+    ensures { IfOk result (λ numbers. AreNumbers numbers.items rows.now []) }
 {
-    let Ok(mut shares) = Vec::with_capacity(alloc, rows.len()) else {
+    let Ok(numbers) = vec![in alloc; None; rows.len()] else {
         return Err(Memory);
     };
-    for _row in rows {
-        let Ok(()) = shares.push(None) else {
-            return Err(Memory);
-        };
-    }
-    Ok(shares)
+    Ok(numbers)
 }
 
-/// The ladder of a row, if there is a row.
-fn shared_of(
-    alloc: Global,
+/// The number of the ladder of a row, if there is a row: it is put when a leg first has the row.
+fn number_of(
+    plan: &mut GridPlan,
     rows: &[LimitRow],
-    shares: &mut Vec<Option<SharedLadder>>,
+    numbers: &mut Vec<Option<u32>>,
     row: Option<u32>,
-) -> Result<Option<SharedLadder>, Memory>
+) -> Result<Option<u32>, Memory>
     requires inside { IfSome row (λ i. i < length rows.now) }
-    requires shares { AreShares shares.old.items rows.now }
-    ensures steps { IfOk result (λ ladder. steps_of ladder ≡ row_steps rows.now row) }
-    ensures distinct { IfOk result (λ ladder. IsDistinct (steps_of ladder)) }
-    ensures shares { OnOk result (AreShares shares.new.items rows.now) }
+    requires numbers { AreNumbers numbers.old.items rows.now plan.old.ladders }
+    ensures there { IfOk result (λ number. IfSome number (λ k. k < length plan.new.ladders)) }
+    ensures steps { IfOk result (λ number. steps_in plan.new.ladders number ≡ row_steps rows.now row) }
+    ensures numbers { OnOk result (AreNumbers numbers.new.items rows.now plan.new.ladders) }
+    ensures flights { OnOk result (plan.new.flights ≡ plan.old.flights) }
+    ensures legs { OnOk result (plan.new.legs ≡ plan.old.legs) }
 {
-    let Some(i) = row else {
+    let Some(row) = row else {
         return Ok(None);
     };
-    let ladder = share(alloc, rows, shares, i as usize)?;
-    let _ = ladder.get().steps();
-    Ok(Some(ladder))
-}
-
-/// The ladder of a row, which all legs share that have it.
-fn share(
-    alloc: Global,
-    rows: &[LimitRow],
-    shares: &mut Vec<Option<SharedLadder>>,
-    i: usize,
-) -> Result<SharedLadder, Memory>
-    requires inside { i < length rows.now }
-    requires shares { AreShares shares.old.items rows.now }
-    ensures steps { IfOk result (λ ladder. ladder ≡ row_steps rows.now (Some i)) }
-    ensures shares { OnOk result (AreShares shares.new.items rows.now) }
-{
-    if let Some(ladder) = &shares[i] {
-        return ladder.again();
+    let i = row as usize;
+    if let Some(number) = numbers[i] {
+        return Ok(Some(number));
     }
-    let Ok(ladder) = SharedLadder::of(alloc, rows[i].ladder.ladder()) else {
+    let Ok(number) = plan.put(rows[i].ladder.ladder()) else {
         return Err(Memory);
     };
-    let Ok(kept) = ladder.again() else {
-        return Err(Memory);
-    };
-    shares[i] = Some(kept);
-    Ok(ladder)
+    numbers[i] = Some(number);
+    Ok(Some(number))
 }

@@ -5,6 +5,7 @@
 mod building;
 mod change_reading;
 mod change_row;
+mod hashing;
 mod ladder_text;
 mod limit_fault;
 mod limit_reading;

@@ -1,25 +1,42 @@
 //! Limit rows by flight and city pair, so that a leg finds its row by bisection.
 ghost use Rattle.std.specs.Prelude.{◌≡◌, ◌<◌, ◌≤◌, ◌+◌, ◌^◌, None, Some, length, IfOk, IfSome, IsTrue, OnOk};
 ghost use Rattle.std.specs.HashMap.{get};
+ghost use Rattle.std.specs.Hash as fed;
+ghost use Rattle.std.specs.Cmp.Rules.{hashing};
+ghost use Rattle.std.proofs.Common.{rules};
 ghost use Rattle.std.specs.List.Sorted.{IsNonDecreasing};
 ghost use Rattle.seat_limits.specs.Authorised.{row_pair, same_pair, leg_pair, authorised, row_steps, PutsRow, HasLastRows, IsRun};
+ghost use Rattle.seat_limits.specs.Hashing.{pair_number};
 ghost use Rattle.seat_limits.specs.RowStretches.{slot, number_noted, number_of, AreEdges, IsAhead, IsBehind, IsFirst, Knows, ShowRows, IsRowIndex};
 
+use crate::hashing::pair_number;
 use crate::limit_row::LimitRow;
 use airline_base::{Airline, Day, Memory, Station};
 use row_stretches::Stretches;
 use ssim_flights::{DatedLeg, Flight};
 use std::alloc::Global;
 use std::collections::HashMap;
+use std::hash::{Hash, Hasher};
 
 /// What a row and a leg have in common: the flight's name and the city pair.
-#[derive(Clone, Copy, PartialEq, Eq, Hash)]
+#[derive(Clone, Copy, PartialEq, Eq)]
 pub struct Pair {
     pub airline: Airline,
     pub number: u16,
     pub suffix: Option<u8>,
     pub board: Station,
     pub off: Station,
+}
+
+/// The fields are hashed as one number, since each write to a hasher costs.
+impl Hash for Pair {
+    ghost hash_input = { λ p. fed.u128 (pair_number p) };
+
+    ghost respects_eq = { Prim.search (hashing, rules) };
+
+    fn hash<H: Hasher>(&self, state: &mut H) {
+        state.write_u128(pair_number(self));
+    }
 }
 
 /// A pair and its number.

@@ -29,7 +29,7 @@ pub fn put_named(
     put_number(text, u64::from(booking.number))?;
     put(text, b" ")?;
     put_locator(text, alone, booking)?;
-    put_segment(text, flight, first, last, booking)?;
+    put_segment(text, &flight, first, last, booking)?;
     Ok(())
 }
 

@@ -159,7 +159,7 @@ pub fn keeps_place(flights: &Flights, wanted: &Wanted<'_>, place: Place) -> bool
     if place.flight >= flights.len() {
         return false;
     }
-    keeps_on(wanted, place, flights.flight(place.flight))
+    keeps_on(wanted, place, &flights.flight(place.flight))
 }
 
 fn keeps_on(wanted: &Wanted<'_>, place: Place, flight: &Flight) -> bool

@@ -68,7 +68,7 @@ fn lines_of(
 {
     let mut text = Vec::new(alloc);
     for index in 0..flights.len() {
-        put_kept_flight(&mut text, core, asked, index, flights.flight(index))?;
+        put_kept_flight(&mut text, core, asked, index, &flights.flight(index))?;
     }
     Ok(text)
 }

@@ -33,7 +33,7 @@ pub fn riders_of(flights: &Flights, core: &Core, asked: &LoadsOf) -> Riders
         waiting: 0,
     };
     for index in 0..flights.len() {
-        let more = flight_riders(core, asked, index, flights.flight(index));
+        let more = flight_riders(core, asked, index, &flights.flight(index));
         riders = Riders {
             held: riders.held + more.held,
             waiting: riders.waiting + more.waiting,

@@ -55,7 +55,7 @@ fn legs_of(flights: &Flights, core: &Core, asked: &LoadsOf) -> LegSums
         limits: 0,
     };
     for index in 0..flights.len() {
-        let more = kept_legs(core, asked, index, flights.flight(index));
+        let more = kept_legs(core, asked, index, &flights.flight(index));
         sums = plus(&sums, &more);
     }
     sums

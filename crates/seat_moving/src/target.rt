@@ -24,7 +24,7 @@ pub fn name_of(flights: &Flights, place: Place) -> Option<Wanted>
     if place.flight >= flights.len() {
         return None;
     }
-    name_on(flights.flight(place.flight), place)
+    name_on(&flights.flight(place.flight), place)
 }
 
 fn name_on(flight: &Flight, place: Place) -> Option<Wanted>

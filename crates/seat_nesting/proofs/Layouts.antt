@@ -4,20 +4,21 @@ use Rattle.std.specs.Prelude.{OnOk, Result, Ok, Err}
 use Rattle.std.specs.List.{slice_get, list_all, flat_map, sum_by}
 use Rattle.std.proofs.Math.Seq.{take-append_seam, drop-append_seam}
 use Rattle.std.proofs.lemmas.Bool.Decides.{nat_tests}
-use Rattle.std.proofs.lemmas.List.{append-nil, append_assoc, drop-drop, drop-replicate, get_or_past, get_or-map, length-append, length-map, length-replicate, length-take, map-append, take-replicate, take_all, take_more}
+use Rattle.std.proofs.lemmas.List.{append-nil, append_assoc, drop-drop, drop-replicate, get_or_append_left, get_or_past, get_or_push, length-append, length-map, length-replicate, length-take, map-append, take-replicate, take_all, take_more}
 use Rattle.std.proofs.lemmas.List.Concat.{flat_map-cons}
 use Rattle.std.proofs.lemmas.List.Sums.{sum_by-cons}
-use Rattle.std.proofs.lemmas.Option.{slice_get-get_or}
+use Rattle.std.proofs.lemmas.Option.{slice_get-get_or, unwrap_or-slice_get}
 use Rattle.seat_nesting.specs.declared.ladder.Step.{Step}
 use Rattle.seat_nesting.specs.declared.counted_flights.LegPart.{LegPart}
 use Rattle.seat_nesting.specs.declared.counted_flights.FlightPart.{FlightPart}
 use Rattle.seat_nesting.specs.declared.laid_out.Layout.{Layout}
 use Rattle.seat_nesting.specs.declared.limits.Limits.{Limits}
 use Rattle.seat_nesting.specs.declared.limits.Limits.TheVariants.{Absent, Shared, Own}
-use Rattle.seat_nesting.specs.Nesting.{Steps, Ladders, IsLadder, IsLegLadder, steps_at, steps_of}
+use Rattle.seat_nesting.specs.Nesting.{Steps, Ladders, IsLadder, IsLegLadder, steps_at}
 use Rattle.seat_nesting.specs.Counting.{LegSeats, Counted, IsFresh, KeepsLimits, leg_of, leg_at, limits_of, no_leg, table_of}
 use Rattle.seat_nesting.specs.OwnLadders.{Pool, CountedLeg, pool_of, steps_by, may_come, leg_seen, legs_seen, all_seen, counted_at, limits_in, all_limits, limits_at, may_come_on, yet_to_come, AreCounters, HaveOwn}
-use Rattle.seat_nesting.specs.FlatCounts.{part, Follow, counted_by, legs_by, flights_by, no_part, no_flight, LegsFollow, FlightsFollow, AreLaidOut, IsFor, AreFor, Grows, AddsLegs, all_legs, IsLaid}
+use Rattle.seat_nesting.specs.FlatCounts.{part, Follow, counted_by, legs_by, flights_by, no_part, no_flight, LegsFollow, FlightsFollow, AreLaidOut, IsFor, AreFor, Grows, AddsLegs, all_legs, IsLaid, leg_steps, flights_in, grid_in}
+use Rattle.seat_nesting.specs.Planning.{steps_in}
 use Rattle.seat_nesting.proofs.Parts.{part_at, part_map, part_past, follow_at, follow_push}
 use Rattle.seat_nesting.proofs.FlatCounts.{flight_at, part_of, leg_counted}
 use Rattle.seat_nesting.proofs.CountedLegs.{leg_seen_at, limits_seen_at}
@@ -32,6 +33,17 @@ found_at shared i found steps lt is same = ap (λ (o : Option Steps). unwrap_or 
 
 pub grows_none : (shared : List Steps) → Grows shared shared
 grows_none shared = record { longer = omega arith; same = λ i lt. refl }
+
+-- a ladder more, behind the others
+pub grows_one : (old : List Steps) (x : Steps) → Grows old (old ++ x ∷ [])
+grows_one old x = record {
+  longer = omega (arith, length-append old (x ∷ []));
+  same = λ i lt. unwrap_or-slice_get (old ++ x ∷ []) i [] ∙ get_or_append_left old (x ∷ []) [] i lt ∙ sym (unwrap_or-slice_get old i []);
+}
+
+pub there_one : (old : List Steps) (x ladder : Steps) (i : ℕ) → i ≡ length old → x ≡ ladder
+    → (i < length (old ++ x ∷ [])) × (steps_at (old ++ x ∷ []) i ≡ ladder)
+there_one old x ladder i at e = (omega (arith, at, length-append old (x ∷ [])), unwrap_or-slice_get (old ++ x ∷ []) i [] ∙ get_or_push old x [] i (sym at) ∙ e)
 
 steps_by_more : (old new : List Steps) (limits : Limits) → Grows old new
     → ((i : ℕ) → limits ≡ Shared i → i < length old)
@@ -50,7 +62,7 @@ for_more old new leg steps grows is = record {
   come = is.come;
 }
 
-are_more : (old new : List Steps) (legs : List LegPart) (done : List Steps) → Grows old new → AreFor old legs done
+pub are_more : (old new : List Steps) (legs : List LegPart) (done : List Steps) → Grows old new → AreFor old legs done
     → AreFor new legs done
 are_more old new [] [] grows all = tt
 are_more old new (leg ∷ legs) (steps ∷ more) grows all = (for_more old new leg steps grows all.0, are_more old new legs more grows all.1)
@@ -96,140 +108,52 @@ ladder_for shared leg i steps e lt is ladder ranks = record {
   come = ap may_come e;
 }
 
+leg_ladder : (steps : Steps) → IsLadder steps → IsLegLadder steps
+leg_ladder steps is = record { most = is.most; distinct = is.distinct; not_rising = is.not_rising; bounded = is.bounded }
+
 on_ok : {T E P Q R : Type 0} (r : Result T E) → (P → Q → R) → OnOk r P → OnOk r Q → OnOk r R
 on_ok (Ok x) f p q = f p q
 on_ok (Err e) f p q = tt
 
 -- a leg without limits is added
-absent_adds : (old new : Layout) (ladder : Option Steps) → ladder ≡ None → new.shared.items ≡ old.shared.items
-    → new.legs.items ≡ old.legs.items ++ (record { start = old.numbers; ranks = 0; limits = Absent }) ∷ []
-    → new.numbers ≡ old.numbers + 0 → AddsLegs old new (steps_of ladder ∷ [])
-absent_adds old new ladder none shared legs numbers =
-    let leg : LegPart = record { start = old.numbers; ranks = 0; limits = Absent } in
+absent_adds : (old new : Layout) → new.shared.items ≡ old.shared.items
+    → new.legs.items ≡ old.legs.items ++ (record { start = old.numbers; limits = Absent; ranks = 0 }) ∷ []
+    → new.numbers ≡ old.numbers + 0 → AddsLegs old new ([] ∷ [])
+absent_adds old new shared legs numbers =
+    let leg : LegPart = record { start = old.numbers; limits = Absent; ranks = 0 } in
     let grows : Grows old.shared.items new.shared.items = subst (λ (s : List Steps). Grows old.shared.items s) (sym shared) (grows_none old.shared.items) in
-    subst (λ (o : Option Steps). AddsLegs old new (steps_of o ∷ [])) (sym none)
-    (adds_leg old new leg [] grows legs refl numbers (no_ladder_for new.shared.items leg refl refl))
+    adds_leg old new leg [] grows legs refl numbers (no_ladder_for new.shared.items leg refl refl)
 
-pub absent_told : {T E : Type 0} (r : Result T E) (old new : Layout) (ladder : Option Steps) → ladder ≡ None
+pub absent_told : {T E : Type 0} (r : Result T E) (old new : Layout) (number : Option ℕ) → number ≡ None
     → new.shared.items ≡ old.shared.items
-    → OnOk r (new.legs.items ≡ old.legs.items ++ (record { start = old.numbers; ranks = 0; limits = Absent }) ∷ [])
-    → OnOk r (new.numbers ≡ old.numbers + 0) → OnOk r (AddsLegs old new (steps_of ladder ∷ []))
-absent_told r old new ladder none shared = on_ok r (absent_adds old new ladder none shared)
-
-leg_ladder : (steps : Steps) → IsLadder steps → IsLegLadder steps
-leg_ladder steps is = record { most = is.most; distinct = is.distinct; not_rising = is.not_rising; bounded = is.bounded }
+    → OnOk r (new.legs.items ≡ old.legs.items ++ (record { start = old.numbers; limits = Absent; ranks = 0 }) ∷ [])
+    → OnOk r (new.numbers ≡ old.numbers + 0) → OnOk r (AddsLegs old new (steps_in old.shared.items number ∷ []))
+absent_told r old new number none shared legs numbers =
+    subst (λ (o : Option ℕ). OnOk r (AddsLegs old new (steps_in old.shared.items o ∷ []))) (sym none) (on_ok r (absent_adds old new shared) legs numbers)
 
 -- a leg with a shared ladder is added
-pub record Shares (old : Layout) (shared : List Steps) (ladder : Option Steps) (got : Steps) (i ranks : ℕ) : Type 0 where
-  pub is_some : ladder ≡ Some got
-  pub grows : Grows old.shared.items shared
-  pub there : (i < length shared) × (steps_at shared i ≡ got)
-  pub ladder_is : IsLadder got
-  pub count : ranks ≡ length got
+shared_adds : (old new : Layout) (got : Steps) (i ranks : ℕ) → i < length old.shared.items
+    → got ≡ steps_at old.shared.items i → IsLadder got → ranks ≡ length got → new.shared.items ≡ old.shared.items
+    → new.legs.items ≡ old.legs.items ++ (record { start = old.numbers; limits = Shared i; ranks = ranks }) ∷ []
+    → new.numbers ≡ old.numbers + ranks → AddsLegs old new (steps_at old.shared.items i ∷ [])
+shared_adds old new got i ranks lt got_is is count shared legs numbers =
+    let leg : LegPart = record { start = old.numbers; limits = Shared i; ranks = ranks } in
+    let grows : Grows old.shared.items new.shared.items = subst (λ (s : List Steps). Grows old.shared.items s) (sym shared) (grows_none old.shared.items) in
+    let its : IsFor new.shared.items leg got = subst (λ (s : List Steps). IsFor s leg got) (sym shared) (ladder_for old.shared.items leg i got refl lt (sym got_is) (leg_ladder got is) count) in
+    subst (λ (s : Steps). AddsLegs old new (s ∷ [])) got_is (adds_leg old new leg got grows legs refl numbers its)
 
-pub shares : (old : Layout) (shared : List Steps) (ladder : Option Steps) (steps got read : Steps) (i ranks : ℕ)
-    → ladder ≡ Some steps → got ≡ steps → Grows old.shared.items shared → (i < length shared) × (steps_at shared i ≡ steps)
-    → IsLadder got → read ≡ got → ranks ≡ length read → Shares old shared ladder got i ranks
-shares old shared ladder steps got read i ranks some same grows there is read_is count = record {
-  is_some = some ∙ ap Some (sym same);
-  grows = grows;
-  there = (there.0, there.1 ∙ sym same);
-  ladder_is = is;
-  count = count ∙ ap length read_is;
-}
-
-shared_adds : (old new : Layout) (shared : List Steps) (ladder : Option Steps) (got : Steps) (i ranks : ℕ)
-    → Shares old shared ladder got i ranks → new.shared.items ≡ shared
-    → new.legs.items ≡ old.legs.items ++ (record { start = old.numbers; ranks = ranks; limits = Shared i }) ∷ []
-    → new.numbers ≡ old.numbers + ranks → AddsLegs old new (steps_of ladder ∷ [])
-shared_adds old new shared ladder got i ranks h shared_is legs numbers =
-    let leg : LegPart = record { start = old.numbers; ranks = ranks; limits = Shared i } in
-    let grows : Grows old.shared.items new.shared.items = subst (λ (s : List Steps). Grows old.shared.items s) (sym shared_is) h.grows in
-    let is : IsFor new.shared.items leg got = subst (λ (s : List Steps). IsFor s leg got) (sym shared_is) (ladder_for shared leg i got refl h.there.0 h.there.1 (leg_ladder got h.ladder_is) h.count) in
-    subst (λ (o : Option Steps). AddsLegs old new (steps_of o ∷ [])) (sym h.is_some) (adds_leg old new leg got grows legs refl numbers is)
-
-pub shared_told : {T E : Type 0} (r : Result T E) (old new : Layout) (shared : List Steps) (ladder : Option Steps)
-    (got : Steps) (i ranks : ℕ) → Shares old shared ladder got i ranks → new.shared.items ≡ shared
-    → OnOk r (new.legs.items ≡ old.legs.items ++ (record { start = old.numbers; ranks = ranks; limits = Shared i }) ∷ [])
-    → OnOk r (new.numbers ≡ old.numbers + ranks) → OnOk r (AddsLegs old new (steps_of ladder ∷ []))
-shared_told r old new shared ladder got i ranks h shared_is = on_ok r (shared_adds old new shared ladder got i ranks h shared_is)
-
--- ---- the legs of a flight
-
-pub adds_none : (old : Layout) → AddsLegs old old []
-adds_none old = record {
-  legs_are = λ done all. subst (λ (d : List Steps). AreFor old.shared.items old.legs.items d) (sym (append-nil done)) all;
-  legs_follow = λ h. h;
-  count = omega arith;
-}
-
-pub adds_next : (old mid new : Layout) (more : List Steps) (steps : Steps) → AddsLegs old mid more
-    → AddsLegs mid new (steps ∷ []) → AddsLegs old new (more ++ steps ∷ [])
-adds_next old mid new more steps before here = record {
-  legs_are = λ done all. subst (λ (d : List Steps). AreFor new.shared.items new.legs.items d) (append_assoc done more (steps ∷ []))
-      (here.legs_are (done ++ more) (before.legs_are done all));
-  legs_follow = λ h. here.legs_follow (before.legs_follow h);
-  count = omega (arith, before.count, here.count, length-append more (steps ∷ []));
-}
-
-pub same_adds : (old mid new : Layout) (more : List Steps) → AddsLegs old mid more
-    → new.shared.items ≡ mid.shared.items → new.legs.items ≡ mid.legs.items → new.numbers ≡ mid.numbers
-    → AddsLegs old new more
-same_adds old mid new more adds shared legs numbers = record {
-  legs_are = λ done all. subst (λ (s : List Steps). AreFor s new.legs.items (done ++ more)) (sym shared)
-      (subst (λ (l : List LegPart). AreFor mid.shared.items l (done ++ more)) (sym legs) (adds.legs_are done all));
-  legs_follow = λ h. subst (λ (l : List LegPart). LegsFollow l new.numbers) (sym legs)
-      (subst (λ (n : ℕ). LegsFollow mid.legs.items n) (sym numbers) (adds.legs_follow h));
-  count = ap length legs ∙ adds.count;
-}
-
--- one leg more of those that there are
-pub adds_more : (old mid new : Layout) (ladders : List (Option Steps)) (i : ℕ) (ladder : Option Steps) → i < length ladders
-    → ladder ≡ get_or ladders i ladder → AddsLegs old mid (take i (map steps_of ladders))
-    → AddsLegs mid new (steps_of ladder ∷ []) → AddsLegs old new (take (i + 1) (map steps_of ladders))
-adds_more old mid new ladders i ladder lt is before here =
-    subst (λ (s : List Steps). AddsLegs old new s) (sym next) (adds_next old mid new (take i (map steps_of ladders)) (steps_of ladder) before here)
-  where
-    inside : i < length (map steps_of ladders)
-    inside = omega (arith, lt, length-map ladders steps_of)
-
-    next : take (i + 1) (map steps_of ladders) ≡ take i (map steps_of ladders) ++ steps_of ladder ∷ []
-    next =
-        take_more (map steps_of ladders) i (steps_of ladder) inside
-        ∙ ap (λ (s : Steps). take i (map steps_of ladders) ++ s ∷ []) (get_or-map steps_of ladders i ladder (steps_of ladder) lt ∙ ap steps_of (sym is))
-
-adds_all : (old mid new : Layout) (ladders : List (Option Steps)) (legs : List Steps) (i : ℕ) → length ladders ≤ i
-    → legs ≡ map steps_of ladders → AddsLegs old mid (take i (map steps_of ladders))
-    → new.shared.items ≡ mid.shared.items → new.legs.items ≡ mid.legs.items → new.numbers ≡ mid.numbers
-    → AddsLegs old new legs
-adds_all old mid new ladders legs i past is adds shared legs_are numbers =
-    subst (λ (s : List Steps). AddsLegs old new s) (sym whole) (same_adds old mid new (take i (map steps_of ladders)) adds shared legs_are numbers)
-  where
-    whole : legs ≡ take i (map steps_of ladders)
-    whole = is ∙ sym (take_all i (map steps_of ladders) (omega (arith, past, length-map ladders steps_of)))
-
-pub adds_told : {T E : Type 0} (r : Result T E) (old mid new : Layout) (ladders : List (Option Steps)) (legs : List Steps)
-    (i : ℕ) → length ladders ≤ i → legs ≡ map steps_of ladders → AddsLegs old mid (take i (map steps_of ladders))
-    → OnOk r ((new.shared.items ≡ mid.shared.items) × (new.legs.items ≡ mid.legs.items) × (new.numbers ≡ mid.numbers))
-    → OnOk r (AddsLegs old new legs)
-adds_told (Ok x) old mid new ladders legs i past is adds h = adds_all old mid new ladders legs i past is adds h.0 h.1 h.2
-adds_told (Err e) old mid new ladders legs i past is adds h = tt
-
--- the flight of the legs that were added
-pub flight_told : {T E : Type 0} (r : Result T E) (old mid new : Layout) (ladders : List (Option Steps)) (legs : List Steps)
-    (first count : ℕ) → mid.flights.items ≡ old.flights.items → first ≡ length old.legs.items → count ≡ length ladders
-    → legs ≡ map steps_of ladders
-    → OnOk r (new.flights.items ≡ mid.flights.items ++ (record { first = first; legs = count }) ∷ [])
-    → OnOk r (new.flights.items ≡ old.flights.items ++ (record { first = length old.legs.items; legs = length legs }) ∷ [])
-flight_told (Ok x) old mid new ladders legs first count same first_is count_is is h =
-    h ∙ ap (λ (f : List FlightPart). f ++ (record { first = first; legs = count }) ∷ []) same
-    ∙ ap (λ (k : ℕ). old.flights.items ++ (record { first = k; legs = count }) ∷ []) first_is
-    ∙ ap (λ (k : ℕ). old.flights.items ++ (record { first = length old.legs.items; legs = k }) ∷ []) (count_is ∙ sym (ap length is ∙ length-map ladders steps_of))
-flight_told (Err e) old mid new ladders legs first count same first_is count_is is h = tt
+pub shared_told : {T E : Type 0} (r : Result T E) (old new : Layout) (number : Option ℕ) (got : Steps) (i ranks : ℕ)
+    → number ≡ Some i → i < length old.shared.items
+    → got ≡ steps_at old.shared.items i → IsLadder got → ranks ≡ length got → new.shared.items ≡ old.shared.items
+    → OnOk r (new.legs.items ≡ old.legs.items ++ (record { start = old.numbers; limits = Shared i; ranks = ranks }) ∷ [])
+    → OnOk r (new.numbers ≡ old.numbers + ranks) → OnOk r (AddsLegs old new (steps_in old.shared.items number ∷ []))
+shared_told r old new number got i ranks some lt got_is is count shared legs numbers =
+    subst (λ (o : Option ℕ). OnOk r (AddsLegs old new (steps_in old.shared.items o ∷ []))) (sym some)
+    (on_ok r (shared_adds old new got i ranks lt got_is is count shared) legs numbers)
 
 -- ---- the flights of a grid
 
-all_push : (grid : Ladders) (legs : List Steps) → all_legs (grid ++ legs ∷ []) ≡ all_legs grid ++ legs
+pub all_push : (grid : Ladders) (legs : List Steps) → all_legs (grid ++ legs ∷ []) ≡ all_legs grid ++ legs
 all_push [] legs = flat_map-cons (λ (l : List Steps). l) legs [] ∙ append-nil legs
 all_push (l ∷ grid) legs =
     flat_map-cons (λ (x : List Steps). x) l (grid ++ legs ∷ [])
@@ -237,114 +161,85 @@ all_push (l ∷ grid) legs =
     ∙ sym (append_assoc l (all_legs grid) legs)
     ∙ ap (λ (s : List Steps). s ++ legs) (sym (flat_map-cons (λ (x : List Steps). x) l grid))
 
-pub laid_none : (layout : Layout) → layout.legs.items ≡ [] → layout.flights.items ≡ [] → layout.numbers ≡ 0
-    → IsLaid layout []
-laid_none layout legs flights numbers = record {
-  legs_are = subst (λ (l : List LegPart). AreFor layout.shared.items l []) (sym legs) tt;
-  legs_follow = subst (λ (l : List LegPart). LegsFollow l layout.numbers) (sym legs) (sym numbers);
-  flights_follow = subst (λ (f : List FlightPart). FlightsFollow f (length layout.legs.items)) (sym flights) (sym (ap length legs));
-  sizes = ap (λ (f : List FlightPart). map (λ (x : FlightPart). x.legs) f) flights;
-}
-
-pub laid_next : (old new : Layout) (grid : Ladders) (legs : List Steps) (flight : FlightPart) → IsLaid old grid
-    → AddsLegs old new legs → new.flights.items ≡ old.flights.items ++ flight ∷ []
-    → flight.first ≡ length old.legs.items → flight.legs ≡ length legs → IsLaid new (grid ++ legs ∷ [])
-laid_next old new grid legs flight laid adds flights first count = record {
-  legs_are = subst (λ (s : List Steps). AreFor new.shared.items new.legs.items s) (sym (all_push grid legs)) (adds.legs_are (all_legs grid) laid.legs_are);
-  legs_follow = adds.legs_follow laid.legs_follow;
-  flights_follow = subst (λ (f : List FlightPart). FlightsFollow f (length new.legs.items)) (sym flights)
-      (subst (λ (n : ℕ). FlightsFollow (old.flights.items ++ flight ∷ []) n) ends
-      (follow_push (λ (f : FlightPart). f.first) (λ (f : FlightPart). f.legs) 0 old.flights.items (length old.legs.items) flight laid.flights_follow first));
-  sizes =
-      ap (map (λ (f : FlightPart). f.legs)) flights
-      ∙ map-append (λ (f : FlightPart). f.legs) old.flights.items (flight ∷ [])
-      ∙ ap (λ (s : List ℕ). s ++ flight.legs ∷ []) laid.sizes
-      ∙ ap (λ (n : ℕ). map (λ (l : List Steps). length l) grid ++ n ∷ []) count
-      ∙ sym (map-append (λ (l : List Steps). length l) grid (legs ∷ []));
-}
-  where
-    ends : length old.legs.items + flight.legs ≡ length new.legs.items
-    ends = omega (arith, count, adds.count)
-
--- one flight more of those that there are
-pub laid_more : (old new : Layout) (grid : Ladders) (i : ℕ) (legs : List Steps) → i < length grid → legs ≡ get_or grid i legs
-    → IsLaid old (take i grid) → AddsLegs old new legs
-    → new.flights.items ≡ old.flights.items ++ (record { first = length old.legs.items; legs = length legs }) ∷ []
-    → IsLaid new (take (i + 1) grid)
-laid_more old new grid i legs lt is laid adds flights =
-    subst (λ (g : Ladders). IsLaid new g) (sym (take_more grid i legs lt ∙ ap (λ (l : List Steps). take i grid ++ l ∷ []) (sym is)))
-    (laid_next old new (take i grid) legs (record { first = length old.legs.items; legs = length legs }) laid adds flights refl refl)
-
-pub laid_all : (layout : Layout) (grid now : Ladders) (i : ℕ) → length grid ≤ i → grid ≡ now → IsLaid layout (take i grid)
-    → IsLaid layout now
-laid_all layout grid now i past is laid = subst (λ (g : Ladders). IsLaid layout g) (take_all i grid past ∙ is) laid
-
 -- ---- what is seen of it
 
-abbrev leg_steps : Pool → LegPart → Steps
-leg_steps pool leg = steps_by pool leg.limits
-
-steps_are : (shared : List Steps) (legs : List LegPart) (done : List Steps) → AreFor shared legs done
-    → map (leg_steps (pool_of shared [])) legs ≡ done
+pub steps_are : (shared : List Steps) (legs : List LegPart) (done : List Steps) → AreFor shared legs done
+    → map (leg_steps shared) legs ≡ done
 steps_are shared [] [] all = refl
-steps_are shared (leg ∷ legs) (steps ∷ more) all = ap (λ (s : Steps). s ∷ map (leg_steps (pool_of shared [])) legs) all.0.steps_are ∙ ap (λ (l : List Steps). steps ∷ l) (steps_are shared legs more all.1)
+steps_are shared (leg ∷ legs) (steps ∷ more) all = ap (λ (s : Steps). s ∷ map (leg_steps shared) legs) all.0.steps_are ∙ ap (λ (l : List Steps). steps ∷ l) (steps_are shared legs more all.1)
 steps_are shared [] (steps ∷ more) all = absurd all
 steps_are shared (leg ∷ legs) [] all = absurd all
 
-legs_fuse : (pool : Pool) (run : List ℕ) (legs : List LegPart)
-    → map (λ (s : LegSeats). s.steps) (legs_seen pool (map (counted_by run) legs)) ≡ map (leg_steps pool) legs
-legs_fuse pool run [] = refl
-legs_fuse pool run (leg ∷ legs) = ap (λ (s : List Steps). leg_steps pool leg ∷ s) (legs_fuse pool run legs)
+legs_fuse : (shared : List Steps) (run : List ℕ) (legs : List LegPart)
+    → map (λ (s : LegSeats). s.steps) (legs_seen (pool_of shared []) (map (counted_by run) legs)) ≡ map (leg_steps shared) legs
+legs_fuse shared run [] = refl
+legs_fuse shared run (leg ∷ legs) = ap (λ (s : List Steps). leg_steps shared leg ∷ s) (legs_fuse shared run legs)
 
-flights_fuse : (pool : Pool) (run : List ℕ) (legs : List LegPart) (flights : List FlightPart)
-    → limits_of (all_seen pool (flights_by run legs flights))
-    ≡ map (λ (f : FlightPart). part (map (leg_steps pool) legs) f.first f.legs) flights
-flights_fuse pool run legs [] = refl
-flights_fuse pool run legs (f ∷ flights) =
-    ap (λ (s : List Steps). s ∷ limits_of (all_seen pool (flights_by run legs flights))) (legs_fuse pool run (part legs f.first f.legs) ∙ part_map (leg_steps pool) legs f.first f.legs)
-    ∙ ap (λ (g : Ladders). part (map (leg_steps pool) legs) f.first f.legs ∷ g) (flights_fuse pool run legs flights)
+flights_fuse : (shared : List Steps) (run : List ℕ) (legs : List LegPart) (flights : List FlightPart)
+    → limits_of (all_seen (pool_of shared []) (flights_by run legs flights)) ≡ flights_in shared legs flights
+flights_fuse shared run legs [] = refl
+flights_fuse shared run legs (f ∷ flights) =
+    ap (λ (s : List Steps). s ∷ limits_of (all_seen (pool_of shared []) (flights_by run legs flights))) (legs_fuse shared run (part legs f.first f.legs) ∙ part_map (leg_steps shared) legs f.first f.legs)
+    ∙ ap (λ (g : Ladders). part (map (leg_steps shared) legs) f.first f.legs ∷ g) (flights_fuse shared run legs flights)
 
 -- parts that follow one another are the lists that were joined
-chunks : (xs : List Steps) (from : ℕ) (flights : List FlightPart) (end : ℕ) (grid : Ladders)
+pub record AreChunks (xs : List Steps) (flights : List FlightPart) (end : ℕ) (grid : Ladders) (more : List Steps) : Type 0 where
+  pub parts : map (λ (f : FlightPart). part xs f.first f.legs) flights ≡ grid
+  pub behind : drop end xs ≡ more
+
+pub chunks : (xs : List Steps) (from : ℕ) (flights : List FlightPart) (end : ℕ) (grid : Ladders) (more : List Steps)
     → Follow (λ (f : FlightPart). f.first) (λ (f : FlightPart). f.legs) from flights end
-    → map (λ (f : FlightPart). f.legs) flights ≡ map (λ (l : List Steps). length l) grid → drop from xs ≡ all_legs grid
-    → map (λ (f : FlightPart). part xs f.first f.legs) flights ≡ grid
-chunks xs from [] end [] follow sizes rest = refl
-chunks xs from [] end (g ∷ grid) follow sizes rest = absurd cc
-chunks xs from (f ∷ flights) end [] follow sizes rest = absurd cc
-chunks xs from (f ∷ flights) end (g ∷ grid) follow sizes rest =
-    ap (λ (p : List Steps). p ∷ map (λ (f : FlightPart). part xs f.first f.legs) flights) first
-    ∙ ap (λ (l : Ladders). g ∷ l) (chunks xs (from + f.legs) flights end grid follow.1 others behind)
+    → map (λ (f : FlightPart). f.legs) flights ≡ map (λ (l : List Steps). length l) grid
+    → drop from xs ≡ all_legs grid ++ more → AreChunks xs flights end grid more
+chunks xs from [] end [] more follow sizes rest = record { parts = refl; behind = ap (λ (k : ℕ). drop k xs) (sym follow) ∙ rest }
+chunks xs from [] end (g ∷ grid) more follow sizes rest = absurd cc
+chunks xs from (f ∷ flights) end [] more follow sizes rest = absurd cc
+chunks xs from (f ∷ flights) end (g ∷ grid) more follow sizes rest =
+    next (chunks xs (from + f.legs) flights end grid more follow.1 sizes_behind rest_behind)
   where
     size : f.legs ≡ length g
     size = cc
 
-    others : map (λ (f : FlightPart). f.legs) flights ≡ map (λ (l : List Steps). length l) grid
-    others = cc
+    sizes_behind : map (λ (f : FlightPart). f.legs) flights ≡ map (λ (l : List Steps). length l) grid
+    sizes_behind = cc
 
-    joined : drop from xs ≡ g ++ all_legs grid
-    joined = rest ∙ flat_map-cons (λ (l : List Steps). l) g grid
+    joined : drop from xs ≡ g ++ (all_legs grid ++ more)
+    joined = rest ∙ ap (λ (l : List Steps). l ++ more) (flat_map-cons (λ (l : List Steps). l) g grid) ∙ append_assoc g (all_legs grid) more
 
     first : part xs f.first f.legs ≡ g
     first =
         ap (λ (k : ℕ). part xs k f.legs) follow.0
         ∙ ap (λ (n : ℕ). take n (drop from xs)) size
         ∙ ap (take (length g)) joined
-        ∙ take-append_seam g (all_legs grid)
+        ∙ take-append_seam g (all_legs grid ++ more)
 
-    behind : drop (from + f.legs) xs ≡ all_legs grid
-    behind =
+    rest_behind : drop (from + f.legs) xs ≡ all_legs grid ++ more
+    rest_behind =
         sym (drop-drop f.legs from xs)
         ∙ ap (λ (n : ℕ). drop n (drop from xs)) size
         ∙ ap (drop (length g)) joined
-        ∙ drop-append_seam g (all_legs grid)
+        ∙ drop-append_seam g (all_legs grid ++ more)
+
+    next : AreChunks xs flights end grid more → AreChunks xs (f ∷ flights) end (g ∷ grid) more
+    next others = record {
+      parts =
+          ap (λ (p : List Steps). p ∷ map (λ (f : FlightPart). part xs f.first f.legs) flights) first
+          ∙ ap (λ (l : Ladders). g ∷ l) others.parts;
+      behind = others.behind;
+    }
+
+-- the flights that are laid out
+pub grid_laid : (layout : Layout) (grid : Ladders) → IsLaid layout grid → grid_in layout ≡ grid
+grid_laid layout grid laid =
+    (chunks (map (leg_steps layout.shared.items) layout.legs.items) 0 layout.flights.items (length layout.legs.items) grid [] laid.flights_follow laid.sizes
+    (steps_are layout.shared.items layout.legs.items (all_legs grid) laid.legs_are ∙ sym (append-nil (all_legs grid)))).parts
+
+pub laid_so : (layout : Layout) (grid : Ladders) → IsLaid layout grid → IsLaid layout (grid_in layout)
+laid_so layout grid laid = subst (λ (g : Ladders). IsLaid layout g) (sym (grid_laid layout grid laid)) laid
 
 pub limits_laid : (layout : Layout) (grid : Ladders) (run : List ℕ) → IsLaid layout grid
     → limits_of (all_seen (pool_of layout.shared.items []) (flights_by run layout.legs.items layout.flights.items)) ≡ grid
-limits_laid layout grid run laid =
-    flights_fuse (pool_of layout.shared.items []) run layout.legs.items layout.flights.items
-    ∙ chunks (map (leg_steps (pool_of layout.shared.items [])) layout.legs.items) 0 layout.flights.items (length layout.legs.items) grid laid.flights_follow laid.sizes
-    (steps_are layout.shared.items layout.legs.items (all_legs grid) laid.legs_are)
+limits_laid layout grid run laid = flights_fuse layout.shared.items run layout.legs.items layout.flights.items ∙ grid_laid layout grid laid
 
 -- ---- each leg of it
 
@@ -485,6 +380,21 @@ pub record AreNew (layout : Layout) (grid : Ladders) (run : List ℕ) (own : Lis
   pub numbered : places ≤ 4294967295
   pub reserved : places ≤ most
   pub flights_are : flights ≡ flights_by run layout.legs.items layout.flights.items
+
+pub are_new : (layout found : Layout) (grid : Ladders) (run : List ℕ) (own : List Steps) (places most : ℕ)
+    (legs : List LegPart) (parts : List FlightPart) (flights : List (List CountedLeg)) → IsLaid found grid → layout ≡ found
+    → run ≡ replicate layout.numbers 0 → own ≡ [] → places ≡ length legs → places ≤ 4294967295 → places ≤ most
+    → legs ≡ layout.legs.items → parts ≡ layout.flights.items → flights ≡ flights_by run legs parts
+    → AreNew layout grid run own places most flights
+are_new layout found grid run own places most legs parts flights laid is seats no_own count numbered reserved legs_are parts_are flights_are = record {
+  laid = subst (λ (l : Layout). IsLaid l grid) (sym is) laid;
+  no_seats = seats;
+  no_own = no_own;
+  count = count ∙ ap length legs_are;
+  numbered = numbered;
+  reserved = reserved;
+  flights_are = flights_are ∙ ap (λ (l : List LegPart). flights_by run l parts) legs_are ∙ ap (flights_by run layout.legs.items) parts_are;
+}
 
 new_flights : (layout : Layout) (grid : Ladders) (run : List ℕ) (own : List Steps) (places most : ℕ)
     (flights : List (List CountedLeg)) → AreNew layout grid run own places most flights

@@ -85,6 +85,11 @@ pub record Grows (old new : List Steps) : Type 0 where
   pub longer : length old ≤ length new
   pub same : (i : ℕ) → i < length old → steps_at new i ≡ steps_at old i
 
+-- no leg is added
+pub record HasSameLegs (old new : Layout) : Type 0 where
+  pub legs : new.legs.items ≡ old.legs.items
+  pub numbers : new.numbers ≡ old.numbers
+
 -- legs for these steps are added
 pub record AddsLegs (old new : Layout) (more : List Steps) : Type 0 where
   pub legs_are : (done : List Steps) → AreFor old.shared.items old.legs.items done
@@ -102,3 +107,15 @@ pub record IsLaid (layout : Layout) (grid : Ladders) : Type 0 where
   pub legs_follow : LegsFollow layout.legs.items layout.numbers
   pub flights_follow : FlightsFollow layout.flights.items (length layout.legs.items)
   pub sizes : map (λ (f : FlightPart). f.legs) layout.flights.items ≡ map (λ (legs : List Steps). length legs) grid
+
+-- the steps of a leg that has a shared ladder or none
+abbrev pub leg_steps : List Steps → LegPart → Steps
+leg_steps shared leg = steps_by (pool_of shared []) leg.limits
+
+abbrev pub flights_in : List Steps → List LegPart → List FlightPart → Ladders
+flights_in shared legs flights =
+    map (λ (f : FlightPart). part (map (leg_steps shared) legs) f.first f.legs) flights
+
+-- the steps of the legs of each flight
+abbrev pub grid_in : Layout → Ladders
+grid_in layout = flights_in layout.shared.items layout.legs.items layout.flights.items

@@ -5,3 +5,4 @@ pub mod FlatCounts
 pub mod Ladders
 pub mod Nesting
 pub mod OwnLadders
+pub mod Planning

@@ -7,12 +7,12 @@ ghost use Rattle.seat_nesting.specs.FlatCounts.{AreLaidOut, flights_by, held_in,
 use crate::limits::Limits;
 use std::marker::Model;
 
-/// Where the numbers of a leg begin, how many ranks it has, and where its limits stand.
+/// Where the numbers of a leg begin, where its limits stand, and how many ranks it has.
 #[derive(Clone, Copy)]
 pub struct LegPart {
     pub start: u32,
-    pub ranks: u8,
     pub limits: Limits,
+    pub ranks: u8,
 }
 
 /// Which of all legs is the first of a flight, and how many it has.
@@ -114,7 +114,7 @@ impl CountedFlights {
 }
 
 /// Which of all legs this one of a flight is, where it is there.
-fn leg_index(flights: &[FlightPart], flight: u32, leg: u8) -> Option<usize>
+pub(crate) fn leg_index(flights: &[FlightPart], flight: u32, leg: u8) -> Option<usize>
     ensures { result ≡ leg_index flights.now flight leg }
 {
     let Some(part) = flights.get(flight as usize) else {

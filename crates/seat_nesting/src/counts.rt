@@ -7,10 +7,10 @@ ghost use Rattle.seat_nesting.specs.Changing.{can_set, has_sale, may_have, step_
 use crate::counted_flights::CountedFlights;
 use crate::grid::Grid;
 use crate::ladder::{Ladder, Step};
-use crate::laid_out::{lay_out, number};
+use crate::laid_out::number;
 use crate::leg_counts::LegCounts;
 use crate::setting::Setting;
-use crate::shared::SharedLadder;
+use crate::shared::SharedLayout;
 use airline_base::{Class, Memory, Place};
 use std::alloc::Global;
 use std::marker::Model;
@@ -19,8 +19,8 @@ use std::marker::Model;
 #[derive(Drop)]
 pub struct Counts {
     flights: CountedFlights,
-    /// The ladders of the grid that several legs may have.
-    shared: Vec<SharedLadder>,
+    /// How the grid is laid out, with the ladders that several legs may have.
+    layout: SharedLayout,
     /// The ladders of the legs whose limits were changed. There is memory for one for each leg,
     /// which is not touched before it is needed.
     own: Vec<Ladder>,
@@ -33,9 +33,9 @@ impl Model for Counts {
 
     ghost Value = { List (List LegSeats) };
 
-    ghost view = { λ c. all_seen (pool_of c.shared.items c.own.items) c.flights };
+    ghost view = { λ c. all_seen (pool_of c.layout.shared.items c.own.items) c.flights };
 
-    ghost invariant = { λ c. AreCounters (pool_of c.shared.items c.own.items) (vec_capacity c.own) c.flights };
+    ghost invariant = { λ c. AreCounters (pool_of c.layout.shared.items c.own.items) (vec_capacity c.own) c.flights };
 }
 
 impl Counts {
@@ -44,22 +44,28 @@ impl Counts {
         ensures limits { IfOk result (λ counts. limits_of counts ≡ grid.now) }
         ensures seats { IfOk result (λ counts. (flight leg class : ℕ) → table_of counts flight leg class ≡ 0) }
     {
-        let Ok(layout) = lay_out(alloc, grid) else {
+        let Ok(layout) = grid.layout().again() else {
             return Err(Memory);
         };
-        let Ok(places) = number(layout.legs.len()) else {
+        let Ok(legs) = Vec::from_slice(alloc, &layout.get().legs) else {
             return Err(Memory);
         };
-        let Ok(seats) = no_seats(alloc, layout.numbers) else {
+        let Ok(flights) = Vec::from_slice(alloc, &layout.get().flights) else {
+            return Err(Memory);
+        };
+        let Ok(places) = number(legs.len()) else {
+            return Err(Memory);
+        };
+        let Ok(seats) = no_seats(alloc, layout.get().numbers) else {
             return Err(Memory);
         };
         let Ok(own) = Vec::with_capacity(alloc, places as usize) else {
             return Err(Memory);
         };
-        let flights = CountedFlights::of(seats, layout.legs, layout.flights);
+        let flights = CountedFlights::of(seats, legs, flights);
         Ok(Counts {
             flights,
-            shared: layout.shared,
+            layout,
             own,
         })
     }
@@ -137,7 +143,7 @@ impl Counts {
         let Some((limits, _seats)) = self.flights.leg(flight, leg) else {
             return None;
         };
-        limits.ladder(&self.shared, &self.own)
+        limits.ladder(self.layout.ladders(), &self.own)
     }
 
     /// The limit and the wait of a class on a leg now, where the leg has the class.
@@ -221,7 +227,7 @@ impl Counts {
         let Some((limits, _held)) = self.flights.leg(flight, leg) else {
             return;
         };
-        let limits = limits.set(&self.shared, &mut self.own, setting);
+        let limits = limits.set(self.layout.ladders(), &mut self.own, setting);
         self.flights.move_limits(flight, leg, limits);
     }
 
@@ -233,7 +239,7 @@ impl Counts {
         let Some((limits, held)) = self.flights.leg(flight, leg) else {
             return None;
         };
-        Some(LegCounts::of(limits.steps(&self.shared, &self.own), held))
+        Some(LegCounts::of(limits.steps(self.layout.ladders(), &self.own), held))
     }
 
     /// The rank of a class on a leg, counted from 0.

@@ -5,6 +5,7 @@
 mod counted_flights;
 mod counts;
 mod grid;
+mod grid_plan;
 mod ladder;
 mod laid_out;
 mod leg_counts;
@@ -13,6 +14,6 @@ mod setting;
 mod shared;
 
 pub use counts::Counts;
-pub use grid::{FlightLegs, Grid};
+pub use grid::Grid;
+pub use grid_plan::GridPlan;
 pub use ladder::{Ladder, LadderFault, Step};
-pub use shared::SharedLadder;

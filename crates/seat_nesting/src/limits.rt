@@ -7,7 +7,6 @@ ghost use Rattle.seat_nesting.specs.declared.limits.Limits.TheVariants.{Own};
 
 use crate::ladder::{Ladder, Step};
 use crate::setting::Setting;
-use crate::shared::SharedLadder;
 
 /// Where the limits of a leg stand.
 #[derive(Clone, Copy)]
@@ -22,24 +21,19 @@ pub enum Limits {
 
 impl Limits {
     /// The ladder, where there is one.
-    pub fn ladder<'a>(self, shared: &'a [SharedLadder], own: &'a [Ladder]) -> Option<&'a Ladder>
+    pub fn ladder<'a>(self, shared: &'a [Ladder], own: &'a [Ladder]) -> Option<&'a Ladder>
         ensures found { IfSome result (λ l. l.now ≡ steps_by (pool_of shared.now own.now) self) }
         ensures none { IfNone result (steps_by (pool_of shared.now own.now) self ≡ []) }
     {
         match self {
             Limits::Absent => None,
-            Limits::Shared(i) => {
-                let Some(ladder) = shared.get(i as usize) else {
-                    return None;
-                };
-                Some(ladder.get())
-            }
+            Limits::Shared(i) => shared.get(i as usize),
             Limits::Own(i) => own.get(i as usize),
         }
     }
 
     /// The steps from the highest rank to the lowest; none where there are no limits.
-    pub fn steps<'a>(self, shared: &'a [SharedLadder], own: &'a [Ladder]) -> &'a [Step]
+    pub fn steps<'a>(self, shared: &'a [Ladder], own: &'a [Ladder]) -> &'a [Step]
         ensures value { result.now ≡ steps_by (pool_of shared.now own.now) self }
         ensures ladder { IsLegLadder result.now }
     {
@@ -51,7 +45,7 @@ impl Limits {
 
     /// Sets what a setting says, for this leg alone, and says where its limits stand
     /// from then on. A shared ladder stays: a changed copy joins the own ones, for which there is memory.
-    pub fn set(self, shared: &[SharedLadder], own: &mut Vec<Ladder>, setting: &Setting) -> Limits
+    pub fn set(self, shared: &[Ladder], own: &mut Vec<Ladder>, setting: &Setting) -> Limits
         requires ladder { IsLadder (with_setting (steps_by (pool_of shared.now own.old.items) self) setting.now) }
         requires there { (i : ℕ) → self ≡ Own i → i < length own.old.items }
         requires reserved { vec_len own.old + may_come self ≤ vec_capacity own.old }
@@ -68,7 +62,7 @@ impl Limits {
                 Limits::Own(i)
             }
             Limits::Shared(i) => {
-                let mut ladder = shared[i as usize].get().copy();
+                let mut ladder = shared[i as usize].copy();
                 ladder.set(setting);
                 let number = own.len() as u32;
                 own.push_reserved(ladder);

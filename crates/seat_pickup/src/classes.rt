@@ -57,7 +57,7 @@ pub fn pickups(
             lines,
             flight,
             index,
-            flights.flight(index),
+            &flights.flight(index),
         )?;
     }
     Ok(all)

@@ -54,7 +54,7 @@ fn run_at(flights: &Flights, asked: &Option<Designator>, place: Place) -> Option
     if place.flight >= flights.len() {
         return None;
     }
-    run_in(flights.flight(place.flight), asked, place)
+    run_in(&flights.flight(place.flight), asked, place)
 }
 
 fn run_in(flight: &Flight, asked: &Option<Designator>, place: Place) -> Option<DatedLeg>

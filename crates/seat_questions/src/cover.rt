@@ -152,7 +152,8 @@ fn legs_of(flights: &Flights) -> u64
 {
     let mut count = 0u64;
     for i in 0..flights.len() {
-        count += flights.flight(i).legs.len() as u64;
+        let flight = flights.flight(i);
+        count += flight.legs.len() as u64;
     }
     count
 }
@@ -170,7 +171,7 @@ fn put_flights(
 {
     let mut count = 0u64;
     for i in 0..flights.len() {
-        count += put_legs(text, i, flights.flight(i), coverage)?;
+        count += put_legs(text, i, &flights.flight(i), coverage)?;
     }
     Ok(count)
 }

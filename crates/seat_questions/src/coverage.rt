@@ -100,7 +100,7 @@ fn days_among(alloc: Global, numbers: &PairNumbers, flights: &Flights) -> Result
 {
     let mut days = Vec::new(alloc);
     for i in 0..flights.len() {
-        put_days(&mut days, numbers, flights.flight(i))?;
+        put_days(&mut days, numbers, &flights.flight(i))?;
     }
     days.sort()?;
     Ok(days)

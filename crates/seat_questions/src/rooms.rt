@@ -76,7 +76,14 @@ fn text_over(
 {
     let mut text = Vec::new(alloc);
     for index in 0..flights.len() {
-        put_flight(&mut text, served, core, asked, index, flights.flight(index))?;
+        put_flight(
+            &mut text,
+            served,
+            core,
+            asked,
+            index,
+            &flights.flight(index),
+        )?;
     }
     Ok(text)
 }

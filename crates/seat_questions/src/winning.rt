@@ -19,7 +19,7 @@ pub fn winners(alloc: Global, flights: &Flights, rows: &[LimitRow]) -> Result<Ve
     let index = RowIndex::new(alloc, rows)?;
     let mut marks = vec![in alloc; false; rows.len()]?;
     for i in 0..flights.len() {
-        mark_legs(&mut marks, &index, rows, flights.flight(i));
+        mark_legs(&mut marks, &index, rows, &flights.flight(i));
     }
     Ok(marks)
 }

@@ -71,7 +71,7 @@ fn put_flights(
     let numbers = days.on(row.day);
     for number in numbers {
         let flight = flights.flight(*number);
-        put_flight(all, flight, row, *number)?;
+        put_flight(all, &flight, row, *number)?;
     }
     Ok(())
 }

@@ -62,7 +62,7 @@ fn text_of(alloc: Global, flights: &Flights) -> Result<Vec<u8>, AllocError>
 {
     let mut text = Vec::new(alloc);
     for index in 0..flights.len() {
-        put_flight(&mut text, index, flights.flight(index))?;
+        put_flight(&mut text, index, &flights.flight(index))?;
     }
     Ok(text)
 }

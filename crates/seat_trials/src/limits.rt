@@ -1,9 +1,9 @@
 //! The limits of four flights.
-ghost use Rattle.std.specs.Prelude.{IfSome, ℕ};
-ghost use Rattle.seat_nesting.specs.Nesting.{IsDistinct, steps_at, steps_of};
+ghost use Rattle.std.specs.Prelude.{◌≡◌, []};
+ghost use Rattle.std.specs.Option.{OnSome};
 
 use airline_base::Class;
-use seat_nesting::{FlightLegs, Grid, Ladder, SharedLadder, Step};
+use seat_nesting::{Grid, GridPlan, Ladder, Step};
 use std::alloc::Global;
 
 /// How many legs each flight has.
@@ -11,41 +11,43 @@ const LEGS: &[u16] = &[1, 2, 3, 2];
 
 /// The ladders of the four flights.
 pub fn grid(alloc: Global) -> Option<Grid> {
-    let mut flights = Vec::new(alloc);
+    let Ok(mut plan) = GridPlan::new(alloc, LEGS.len()) else {
+        return None;
+    };
     for flight in 0..LEGS.len() {
-        let Some(legs) = legs_of(alloc, LEGS[flight]) else {
-            return None;
-        };
-        let Ok(()) = flights.push(legs) else {
+        let Some(()) = add_flight(&mut plan, LEGS[flight]) else {
             return None;
         };
     }
-    match Grid::of(alloc, flights) {
+    match Grid::of(alloc, plan) {
         Ok(grid) => Some(grid),
         Err(_) => None,
     }
 }
 
-/// So many legs, each with a seat less than the one ahead of it.
-fn legs_of(alloc: Global, count: u16) -> Option<FlightLegs>
-    ensures { IfSome result (λ legs. (leg : ℕ) → IsDistinct (steps_at legs leg)) }
+/// Adds a flight of so many legs, each with a seat less than the one ahead of it.
+fn add_flight(plan: &mut GridPlan, count: u16) -> Option<()>
+    ensures { OnSome result (plan.new.legs ≡ []) }
 {
-    let mut ladders = Vec::new(alloc);
     for leg in 0..count {
-        let Some(ladder) = ladder_of(alloc, 9u16.saturating_sub(leg)) else {
+        let Some(ladder) = ladder_of(9u16.saturating_sub(leg)) else {
             return None;
         };
-        let Ok(()) = ladders.push(ladder) else {
+        let Ok(number) = plan.share(&ladder) else {
+            return None;
+        };
+        let Ok(()) = plan.add_leg(Some(number)) else {
             return None;
         };
     }
-    Some(FlightLegs::of(ladders))
+    match plan.close_flight() {
+        Ok(()) => Some(()),
+        Err(_) => None,
+    }
 }
 
 /// So many seats of Y, and three of M below it, where nobody is listed.
-fn ladder_of(alloc: Global, seats: u16) -> Option<Option<SharedLadder>>
-    ensures { IfSome result (λ ladder. IsDistinct (steps_of ladder)) }
-{
+fn ladder_of(seats: u16) -> Option<Ladder> {
     let (Some(high), Some(low)) = (Class::new(b'Y'), Class::new(b'M')) else {
         return None;
     };
@@ -63,12 +65,8 @@ fn ladder_of(alloc: Global, seats: u16) -> Option<Option<SharedLadder>>
         listed: false,
         closed: false,
     };
-    let Ok(ladder) = Ladder::new(&[upper, lower]) else {
-        return Some(None);
-    };
-    let _ = ladder.steps();
-    match SharedLadder::of(alloc, ladder) {
-        Ok(shared) => Some(Some(shared)),
+    match Ladder::new(&[upper, lower]) {
+        Ok(ladder) => Some(ladder),
         Err(_) => None,
     }
 }

@@ -5,28 +5,31 @@ use Rattle.ssim_flights.specs.declared.adding.Flown.{Flown}
 use Rattle.ssim_flights.specs.Adding.{IsChainAdded, IsAdded}
 use Rattle.ssim_flights.specs.Flown.{departures_of, flights_of, IsRefusal}
 use Rattle.ssim_flights.specs.Taken.{has_departure, Takes}
+use Rattle.ssim_flights.specs.Timetables.{flights_in, IsTable}
 use Rattle.ssim_flights.proofs.Chaining.{departures_are, flights_are, fault_days}
 
 -- the flights of the rows were added
 pub added_rows : (plan : Plan) (legs : List Leg) (first : Scheduled) (rest chained : List Scheduled) (is : List ℕ)
     (old new : Flown) → chained ≡ first ∷ rest → is ≡ rows plan chained
-    → days_fault plan (has_departure old.taken) (length old.flights.items) legs chained ≡ None
-    → new.flights.items ≡ old.flights.items ++ map (flight_on plan first.leg chained) is
-    → Takes old.taken new.taken (map (departure first) is) → IsChainAdded plan legs chained old new
-added_rows plan legs first rest chained is old new e r none flights taken = record {
+    → days_fault plan (has_departure old.taken) (length (flights_in old.flights)) legs chained ≡ None
+    → flights_in new.flights ≡ flights_in old.flights ++ map (flight_on plan first.leg chained) is
+    → IsTable new.flights → Takes old.taken new.taken (map (departure first) is) → IsChainAdded plan legs chained old new
+added_rows plan legs first rest chained is old new e r none flights table taken = record {
   faultless = none;
-  flights = flights ∙ ap (λ (fs : List Flight). old.flights.items ++ fs) (sym (flights_are plan first rest chained is e r));
+  flights = flights ∙ ap (λ (fs : List Flight). flights_in old.flights ++ fs) (sym (flights_are plan first rest chained is e r));
+  table = table;
   taken = subst (λ (ds : List Departure). Takes old.taken new.taken ds) (sym (departures_are plan first rest chained is e r)) taken;
 }
 
 -- a chain of no legs
 pub added_none : (plan : Plan) (legs : List Leg) (chained : List Scheduled) (flown : Flown) → chained ≡ []
-    → days_fault plan (has_departure flown.taken) (length flown.flights.items) legs chained ≡ None
-    → IsChainAdded plan legs chained flown flown
+    → days_fault plan (has_departure flown.taken) (length (flights_in flown.flights)) legs chained ≡ None
+    → IsTable flown.flights → IsChainAdded plan legs chained flown flown
 unfolding flights_on departures_on
-added_none plan legs chained flown e none = record {
+added_none plan legs chained flown e none table = record {
   faultless = none;
-  flights = sym (append-nil flown.flights.items) ∙ ap (λ (c : List Scheduled). flown.flights.items ++ flights_on plan c) (sym e);
+  flights = sym (append-nil (flights_in flown.flights)) ∙ ap (λ (c : List Scheduled). flights_in flown.flights ++ flights_on plan c) (sym e);
+  table = table;
   taken = subst (λ (c : List Scheduled). Takes flown.taken flown.taken (departures_on plan c)) (sym e) (record { at = λ d. refl });
 }
 
@@ -36,8 +39,9 @@ pub added_chain : (plan : Plan) (legs : List Leg) (chained : List Scheduled) (ol
     → broken_chain (chain legs) ≡ None → IsChainAdded plan legs chained old new → IsAdded plan legs old new
 unfolding flights_of departures_of
 added_chain plan legs chained old new e a b c added = record {
-  faultless = fault_days plan (has_departure old.taken) (length old.flights.items) legs a b c ∙ ap (days_fault plan (has_departure old.taken) (length old.flights.items) legs) (sym e) ∙ added.faultless;
-  flights = added.flights ∙ ap (λ (l : List Scheduled). old.flights.items ++ flights_on plan l) e;
+  faultless = fault_days plan (has_departure old.taken) (length (flights_in old.flights)) legs a b c ∙ ap (days_fault plan (has_departure old.taken) (length (flights_in old.flights)) legs) (sym e) ∙ added.faultless;
+  flights = added.flights ∙ ap (λ (l : List Scheduled). flights_in old.flights ++ flights_on plan l) e;
+  table = added.table;
   taken = subst (λ (l : List Scheduled). Takes old.taken new.taken (departures_on plan l)) e added.taken;
 }
 

@@ -1,14 +1,16 @@
 -- The flights and the faults of one chain.
-use Rattle.std.proofs.Common.{◌≡◌, ℕ, ◌+◌, ◌<◌, Bool, true, false, cond, ◌==◌, nat_lt, List, [], ◌∷◌, length, get_or, map, min, All, Option, Some, None, IfSome, sym, ap, subst, ◌∙◌, arith}
+use Rattle.std.proofs.Common.{◌≡◌, ℕ, ◌+◌, ◌<◌, Bool, true, false, cond, ◌==◌, nat_lt, List, [], ◌∷◌, length, get_or, map, min, All, Option, Some, None, IfSome, refl, sym, ap, subst, ◌∙◌, arith}
 use Rattle.ssim_flights.proofs.Common.{list_any, range_with_len, Leg, FlightFault, Departure, Plan, Scheduled, chain, missing_leg, repeated_leg, broken_chain, schedule, rows, shortest, is_in_horizon, day_at, flights_on, flight_on, days_fault, departures_on, departure, fault_of, leg_one_if}
 use Rattle.std.specs.List.{filter_map, cons_option}
+use Rattle.std.specs.Option.{option_or}
+use Rattle.std.proofs.lemmas.Bool.{le-ltb}
 use Rattle.std.proofs.lemmas.List.Elements.{All-nil, All-cons, All-filter, All-from_get_or, All-weaker, All-head, All-tail}
 use Rattle.std.proofs.lemmas.List.{length-map}
 use Rattle.std.proofs.lemmas.List.FromFn.{length-range_with_len, get_or-range_with_len}
 use Rattle.ssim_flights.specs.declared.fault.FlightKind.{FlightKind}
 use Rattle.ssim_flights.specs.declared.fault.FlightKind.TheVariants as kinds
 use Rattle.ssim_flights.specs.LegChains.{leg_at, sequences, first_record_if}
-use Rattle.ssim_flights.specs.Schedules.{differing, falling_at, falling_back, Reaches}
+use Rattle.ssim_flights.specs.Schedules.{differing, falling_after, falling_at, falling_back, local_at, Reaches}
 use Rattle.ssim_flights.specs.Flown.{found}
 
 pub found_some : (kind : FlightKind) (o : Option ℕ) (serial : ℕ) (later : Option FlightFault) → o ≡ Some serial
@@ -90,6 +92,16 @@ pub falling_is : (plan : Plan) (chained : List Scheduled) (is : List ℕ) → is
     → falling_at chained is ≡ falling_back plan chained
 unfolding falling_back
 falling_is plan chained is e = ap (falling_at chained) e
+
+-- a leg alone has none ahead of it
+pub none_falls : (legs : List Scheduled) (is : List ℕ) → length legs < 2 → None ≡ falling_at legs is
+none_falls legs [] few = refl
+none_falls legs (i ∷ is) few = none_falls legs is few ∙ ap (λ (o : Option ℕ). option_or o (falling_at legs is)) (sym (alone legs few))
+  where
+    alone : (legs : List Scheduled) → length legs < 2 → falling_after i 0 legs ≡ None
+    alone [] few = refl
+    alone (leg ∷ []) few = ap (λ (b : Bool). cond b (Some leg.leg.serial) None) (le-ltb (local_at leg i + 1) 0 (omega arith))
+    alone (leg ∷ next ∷ legs) few = absurd (omega arith)
 
 -- leg 1 is refused where one of the departures is taken
 pub twice_is : (plan : Plan) (taken : Departure → Bool) (first : Scheduled) (rest chained : List Scheduled)

@@ -45,7 +45,7 @@ day_is : (plan : Plan) (leg : Leg) (i : ℕ) → day_at (scheduled plan leg) i �
 unfolding scheduled
 day_is plan leg i = ap (λ (ds : List ℕ). get_or ds i 0) (days_back (days_after plan.local leg) (operating_days leg plan.end))
 
-operations_are : (plan : Plan) (leg : Leg)
+pub operations_are : (plan : Plan) (leg : Leg)
     → length (scheduled plan leg).operations ≡ length (operating_days leg plan.end)
 unfolding scheduled
 operations_are plan leg = length-map (operating_days leg plan.end) (operation (days_after plan.local leg))

@@ -20,6 +20,7 @@ use Rattle.ssim_flights.specs.Flown.{all_departures, dated_flights, departures_o
 use Rattle.ssim_flights.specs.Itineraries.{itineraries, legs_of, name_of, names_after, same_name}
 use Rattle.ssim_flights.specs.Schedules.{differing, falling_back, scheduled, dated_leg}
 use Rattle.ssim_flights.specs.Taken.{has_departure}
+use Rattle.ssim_flights.specs.Timetables.{flights_in, IsTable}
 use Rattle.ssim_flights.proofs.Departing.{distinct_more, own_distinct, same_tests, untaken}
 use Rattle.ssim_flights.proofs.Walks.{drop_step}
 
@@ -75,17 +76,29 @@ short_on plan (leg ∷ legs) few =
     (All-from_get_or (λ i. length (map (dated_leg i) (leg ∷ legs)) ≤ 8) (rows plan (leg ∷ legs)) 0
     (λ k h. let n = length-map (leg ∷ legs) (dated_leg (get_or (rows plan (leg ∷ legs)) k 0)) in omega arith))
 
+few_legs : (plan : Plan) (legs : List Leg) → first_record_if (nat_lt 8 (length (schedule plan (chain legs)))) legs ≡ None
+    → length (schedule plan (chain legs)) ≤ 8
+unfolding chain sequences
+few_legs plan [] none = omega arith
+few_legs plan (leg ∷ legs) none = by (nat_lt 8 (length (schedule plan (chain (leg ∷ legs))))) refl none
+  where
+    by : (b : Bool) → nat_lt 8 (length (schedule plan (chain (leg ∷ legs)))) ≡ b → cond b (Some leg.serial) None ≡ None
+        → length (schedule plan (chain (leg ∷ legs))) ≤ 8
+    by true e h = cc
+    by false e h = ltb-false _ _ e
+
+-- a chain without fault has at most 8 legs
+pub short_chain : (plan : Plan) (taken : Departure → Bool) (count : ℕ) (legs : List Leg) (chained : List Scheduled)
+    → chained ≡ schedule plan (chain legs) → days_fault plan taken count legs chained ≡ None → length chained ≤ 8
+short_chain plan taken count legs chained e none =
+    let few = days_few plan taken count legs chained none in
+    subst (λ (c : List Scheduled). length c ≤ 8) (sym e)
+    (few_legs plan legs (subst (λ (c : List Scheduled). first_record_if (nat_lt 8 (length c)) legs ≡ None) e few.short))
+
 short_after : (plan : Plan) (legs : List Leg)
     → first_record_if (nat_lt 8 (length (schedule plan (chain legs)))) legs ≡ None
     → All (λ f. length f.legs ≤ 8) (flights_on plan (schedule plan (chain legs)))
-unfolding chain sequences
-short_after plan [] none = short_on plan [] (omega arith)
-short_after plan (leg ∷ legs) none = by (nat_lt 8 (length (schedule plan (chain (leg ∷ legs))))) refl none
-  where
-    by : (b : Bool) → nat_lt 8 (length (schedule plan (chain (leg ∷ legs)))) ≡ b → cond b (Some leg.serial) None ≡ None
-        → All (λ f. length f.legs ≤ 8) (flights_on plan (schedule plan (chain (leg ∷ legs))))
-    by true e h = cc
-    by false e h = short_on plan (schedule plan (chain (leg ∷ legs))) (ltb-false _ _ e)
+short_after plan legs none = short_on plan (schedule plan (chain legs)) (few_legs plan legs none)
 
 -- an itinerary without fault is not broken
 unbroken : (plan : Plan) (taken : Departure → Bool) (count : ℕ) (legs : List Leg)
@@ -175,46 +188,48 @@ pub flown_more : (plan : Plan) (all : List (List Leg)) (i : ℕ) (legs : List Le
     → IsFlown plan (take (i + 1) all) new
 unfolding flights_of
 flown_more plan all i legs old new inside is flown added =
-    let checks = fault_few plan (has_departure old.taken) (length old.flights.items) legs added.faultless in
-    let few = few_after plan (length old.flights.items) (schedule plan (chain legs)) flown.few checks.few in
+    let checks = fault_few plan (has_departure old.taken) (length (flights_in old.flights)) legs added.faultless in
+    let few = few_after plan (length (flights_in old.flights)) (schedule plan (chain legs)) flown.few checks.few in
     record {
       flights = added.flights ∙ ap (λ (fs : List Flight). fs ++ flights_of plan legs) flown.flights ∙ sym (flat_map_more (flights_of plan) all i legs inside is);
+      table = added.table;
       taken = λ d. added.taken.at d ∙ ap (λ b. list_any (same_departure d) (departures_of plan legs) || b) (flown.taken d)
           ∙ or_flip (list_any (same_departure d) (departures_of plan legs)) (is_taken plan (take i all) d)
           ∙ sym (list_any-append (same_departure d) (flat_map (departures_of plan) (take i all)) (departures_of plan legs))
           ∙ ap (list_any (same_departure d)) (sym (flat_map_more (departures_of plan) all i legs inside is));
-      few = subst (λ (fs : List Flight). length fs ≤ plan.most) (sym added.flights) (subst (λ (n : ℕ). n ≤ plan.most) (sym (length-append old.flights.items (flights_of plan legs))) few);
+      few = subst (λ (fs : List Flight). length fs ≤ plan.most) (sym added.flights) (subst (λ (n : ℕ). n ≤ plan.most) (sym (length-append (flights_in old.flights) (flights_of plan legs))) few);
       short = subst (λ (fs : List Flight). All (λ f. length f.legs ≤ 8) fs) (sym added.flights)
-          (All-append (λ f. length f.legs ≤ 8) old.flights.items (flights_of plan legs) flown.short (short_after plan legs checks.short));
+          (All-append (λ f. length f.legs ≤ 8) (flights_in old.flights) (flights_of plan legs) flown.short (short_after plan legs checks.short));
       joined = subst (λ (fs : List Flight). AreJoined fs) (sym added.flights) (record {
         joined =
-            All-append (λ f. IsTrue (joins_up f.legs)) old.flights.items (flights_of plan legs) flown.joined.joined
-            (joined_on plan (chain legs) (unbroken plan (has_departure old.taken) (length old.flights.items) legs added.faultless)).joined;
+            All-append (λ f. IsTrue (joins_up f.legs)) (flights_in old.flights) (flights_of plan legs) flown.joined.joined
+            (joined_on plan (chain legs) (unbroken plan (has_departure old.taken) (length (flights_in old.flights)) legs added.faultless)).joined;
       });
-      distinct = distinct_after plan all i legs (has_departure old.taken) (length old.flights.items) inside is flown.taken added.faultless flown.distinct;
+      distinct = distinct_after plan all i legs (has_departure old.taken) (length (flights_in old.flights)) inside is flown.taken added.faultless flown.distinct;
     }
 
 -- an itinerary's fault, or those of the later ones
 pub fault_more : (plan : Plan) (all : List (List Leg)) (i : ℕ) (legs : List Leg) (old : Flown) (o : Option FlightFault)
     → i < length all → legs ≡ get_or all i legs → IsFlown plan (take i all) old
-    → fault_of plan (has_departure old.taken) (length old.flights.items) legs ≡ o
+    → fault_of plan (has_departure old.taken) (length (flights_in old.flights)) legs ≡ o
     → fault_after plan (take i all) (drop i all) ≡ option_or o (fault_after plan (take (i + 1) all) (drop (i + 1) all))
 fault_more plan all i legs old o inside is flown e =
     let front : take (i + 1) all ≡ take i all ++ legs ∷ [] = take_more all i legs inside ∙ ap (λ y. take i all ++ y ∷ []) (sym is) in
     let same : has_departure old.taken ≡ is_taken plan (take i all) = λ j d. flown.taken d j in
     let here : fault_of plan (is_taken plan (take i all)) (length (flat_map (flights_of plan) (take i all))) legs ≡ o =
     ap (λ (fs : List Flight). fault_of plan (is_taken plan (take i all)) (length fs) legs) (sym flown.flights)
-    ∙ ap (λ (t : Departure → Bool). fault_of plan t (length old.flights.items) legs) (sym same) ∙ e in
+    ∙ ap (λ (t : Departure → Bool). fault_of plan t (length (flights_in old.flights)) legs) (sym same) ∙ e in
     ap (fault_after plan (take i all)) (drop_step all i legs inside is)
     ∙ ap (λ x. option_or x (fault_after plan (take i all ++ legs ∷ []) (drop (i + 1) all))) here
     ∙ ap (λ earlier. option_or o (fault_after plan earlier (drop (i + 1) all))) (sym front)
 
 -- ---- the start and the end
 
-pub flown_none : (plan : Plan) (flown : Flown) → flown.flights.items ≡ [] → flown.taken.keys ≡ []
-    → IsFlown plan [] flown
-flown_none plan flown flights taken = record {
+pub flown_none : (plan : Plan) (flown : Flown) → flights_in flown.flights ≡ [] → IsTable flown.flights
+    → flown.taken.keys ≡ [] → IsFlown plan [] flown
+flown_none plan flown flights table taken = record {
   flights = flights;
+  table = table;
   taken = λ d. ap (list_any (same_departure d)) taken;
   few = subst (λ (fs : List Flight). length fs ≤ plan.most) (sym flights) (omega arith);
   short = subst (λ (fs : List Flight). All (λ f. length f.legs ≤ 8) fs) (sym flights) (All-nil (λ f. length f.legs ≤ 8));
@@ -223,12 +238,12 @@ flown_none plan flown flights taken = record {
 }
 
 pub flights_all : (plan : Plan) (all : List (List Leg)) (i : ℕ) (flown : Flown) → length all ≤ i
-    → IsFlown plan (take i all) flown → flown.flights.items ≡ dated_flights plan all
+    → IsFlown plan (take i all) flown → flights_in flown.flights ≡ dated_flights plan all
 unfolding dated_flights
 flights_all plan all i flown past is = is.flights ∙ ap (flat_map (flights_of plan)) (take_all i all past)
 
 pub few_all : (plan : Plan) (earlier : List (List Leg)) (flown : Flown) → plan.most ≤ 100000
-    → IsFlown plan earlier flown → AreFew flown.flights.items
+    → IsFlown plan earlier flown → AreFew (flights_in flown.flights)
 few_all plan earlier flown most is = let few = is.few in record { flights = omega arith; legs = is.short }
 
 pub distinct_all : (plan : Plan) (all : List (List Leg)) (i : ℕ) (flown : Flown) → length all ≤ i
@@ -246,7 +261,7 @@ itineraries_right P legs all =
 pub refusal_first : (plan : Plan) (all : List (List Leg)) (i : ℕ) (legs : List Leg) (old : Flown) (fault : FlightFault)
     → i < length all → legs ≡ get_or all i legs → IsFlown plan (take i all) old
     → first_fault plan all ≡ fault_after plan (take i all) (drop i all)
-    → IsRefusal fault (fault_of plan (has_departure old.taken) (length old.flights.items) legs)
+    → IsRefusal fault (fault_of plan (has_departure old.taken) (length (flights_in old.flights)) legs)
     → IsRefusal fault (first_fault plan all)
 refusal_first plan all i legs old fault inside is flown start refusal =
     ⊎_elim (λ m. inl m) (λ e. inr (start ∙ fault_more plan all i legs old (Some fault) inside is flown e)) refusal

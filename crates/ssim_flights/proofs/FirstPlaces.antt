@@ -1,16 +1,18 @@
 -- The first place on a flight, and where there is none.
-use Rattle.std.proofs.Common.{◌≡◌, ℕ, ◌+◌, ◌&&◌, ◌==◌, nat_eq, Bool, true, false, cond, List, [], ◌∷◌, ◌++◌, Option, Some, None, refl, sym, ap, subst, ◌∙◌}
+use Rattle.std.proofs.Common.{◌≡◌, ℕ, ◌+◌, ◌<◌, ◌&&◌, ◌||◌, ◌==◌, nat_eq, Bool, true, false, cond, List, [], ◌∷◌, ◌++◌, length, Option, Some, None, refl, sym, ap, subst, ◌∙◌}
 use Rattle.ssim_flights.proofs.Common.{Flight}
 use Rattle.std.specs.Option.{option_eq, option_or}
 use Rattle.std.specs.Map.{lookup}
 use Rattle.std.specs.Cmp.Lexicographic.{pointwise}
+use Rattle.std.specs.Prelude.{slice_get}
 use Rattle.std.proofs.lemmas.Bool.{true≢false}
+use Rattle.std.proofs.lemmas.Option.{slice_get_within}
 use Rattle.airline_base.specs.declared.place.Place.{Place}
 use Rattle.ssim_flights.specs.declared.flight.DatedLeg.{DatedLeg}
 use Rattle.ssim_flights.specs.declared.flight.Wanted.{Wanted}
 use Rattle.ssim_flights.specs.Flown.{same_departure}
 use Rattle.ssim_flights.specs.Places.{same_wanted, wish, ends_from, places_from}
-use Rattle.ssim_flights.specs.Slots.{departs, has_leg_at, leaving, leaving_for}
+use Rattle.ssim_flights.specs.Slots.{departs, has_leg_at, has_name, leaving, leaving_for, place_of, place_on}
 use Rattle.ssim_flights.proofs.Departing.{or_parts}
 
 or_cond : {A : Type 0} (b : Bool) (x : A) (o p : Option A)
@@ -86,3 +88,38 @@ pub from_rest : (test : Wanted → Bool) (flight : Flight) (n from : ℕ) (first
 from_rest test flight n from first rest legs r are none e = subst (λ (l : List DatedLeg). None ≡ lookup test (ends_from flight n from first from l) → r ≡ lookup test (places_from flight n from l)) (sym are)
     (λ h. e ∙ sym (lookup_append test (ends_from flight n from first from (first ∷ rest)) (places_from flight n (from + 1) rest)
     ∙ ap (λ o. option_or o (lookup test (places_from flight n (from + 1) rest))) (sym h))) none
+
+-- ---- by the name first
+
+no_leg : (flight : Flight) (legs : List DatedLeg) (w : Wanted) → has_name w (Some flight) ≡ false
+    → has_leg_at flight legs (leaving_for w) ≡ false
+no_leg flight [] w e = refl
+no_leg flight (leg ∷ legs) w e = by (flight.number == w.number) (option_eq nat_eq flight.suffix w.suffix) e (no_leg flight legs w e)
+  where
+    by : (n s : Bool) → (n && s) ≡ false → has_leg_at flight legs (leaving_for w) ≡ false
+        → ((n && (s && (leg.day == w.day))) || has_leg_at flight legs (leaving_for w)) ≡ false
+    by false s e rest = rest
+    by true false e rest = rest
+    by true true e rest = absurd (true≢false e)
+
+pub other_name : (flights : List Flight) (n : ℕ) (w : Wanted) → false ≡ has_name w (slice_get flights n)
+    → None ≡ place_on flights n w
+other_name flights n w e = by (slice_get flights n) e
+  where
+    by : (o : Option Flight) → false ≡ has_name w o → None ≡ place_of n w o
+    by None e = refl
+    by (Some flight) e = sym (places_none flight n 0 flight.legs w (no_leg flight flight.legs w (sym e)))
+
+pub named_inside : (flights : List Flight) (n : ℕ) (w : Wanted) → true ≡ has_name w (slice_get flights n)
+    → n < length flights
+named_inside flights n w e = by (slice_get flights n) refl e
+  where
+    by : (o : Option Flight) → slice_get flights n ≡ o → true ≡ has_name w o → n < length flights
+    by None at e = absurd (true≢false e)
+    by (Some flight) at e = slice_get_within flights n flight at
+
+pub known_place : (flights : List Flight) (n : ℕ) (w : Wanted) (flight : Flight) (legs : List DatedLeg) (r : Option Place)
+    → slice_get flights n ≡ Some flight → legs ≡ flight.legs
+    → r ≡ lookup (λ k. same_wanted k w) (places_from flight n 0 legs) → r ≡ place_on flights n w
+known_place flights n w flight legs r at are e =
+    e ∙ (ap (λ (ls : List DatedLeg). lookup (λ k. same_wanted k w) (places_from flight n 0 ls)) are ∙ sym (ap (place_of n w) at))

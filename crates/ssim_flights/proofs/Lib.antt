@@ -14,4 +14,5 @@ pub mod RightSets
 mod Rounding
 mod RowByRow
 mod Slotting
+mod Timetables
 pub mod Walks

@@ -1,5 +1,5 @@
 -- What is made of rows, one row more.
-use Rattle.std.proofs.Common.{◌≡◌, ℕ, ◌+◌, ◌<◌, ◌≤◌, Bool, true, false, ◌||◌, List, [], ◌∷◌, ◌++◌, length, get_or, map, take, refl, sym, ap, subst, ◌∙◌, append_assoc}
+use Rattle.std.proofs.Common.{◌≡◌, ℕ, ◌+◌, ◌<◌, ◌≤◌, Bool, true, false, ◌||◌, List, [], ◌∷◌, ◌++◌, length, get_or, map, take, refl, sym, ap, subst, ◌∙◌}
 use Rattle.std.specs.List.{list_any}
 use Rattle.std.proofs.lemmas.List.{map-append, take_all, take_more}
 use Rattle.std.proofs.lemmas.List.Folds.{list_any-append}
@@ -12,18 +12,6 @@ row_more : {A : Type 0} (f : ℕ → A) (rows : List ℕ) (k : ℕ) (x : A) → 
 row_more {A = A} f rows k x below is =
     ap (map f) (take_more rows k 0 below) ∙ map-append f (take k rows) (get_or rows k 0 ∷ [])
     ∙ ap (λ (y : A). map f (take k rows) ++ y ∷ []) (sym is)
-
--- what stands behind others
-pub made_more : {A : Type 0} (f : ℕ → A) (old mid new : List A) (rows : List ℕ) (k : ℕ) (x : A) → k < length rows
-    → mid ≡ old ++ map f (take k rows) → x ≡ f (get_or rows k 0) → new ≡ mid ++ x ∷ []
-    → new ≡ old ++ map f (take (k + 1) rows)
-made_more {A = A} f old mid new rows k x below so_far is pushed =
-    pushed ∙ ap (λ (l : List A). l ++ x ∷ []) so_far ∙ append_assoc old (map f (take k rows)) (x ∷ [])
-    ∙ ap (λ (l : List A). old ++ l) (sym (row_more f rows k x below is))
-
-pub made_all : {A : Type 0} (f : ℕ → A) (old new : List A) (rows : List ℕ) (k : ℕ) → length rows ≤ k
-    → new ≡ old ++ map f (take k rows) → new ≡ old ++ map f rows
-made_all f old new rows k past so_far = so_far ∙ ap (λ (l : List ℕ). old ++ map f l) (take_all k rows past)
 
 either : (a b c : Bool) → (b || false) || (a || c) ≡ (a || (b || false)) || c
 either true true c = refl

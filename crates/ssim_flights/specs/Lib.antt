@@ -2,6 +2,7 @@ pub mod Adding
 pub mod FaultText
 pub mod Few
 pub mod Flown
+pub mod Hashing
 pub mod Itineraries
 pub mod LegChains
 pub mod Operating
@@ -11,3 +12,4 @@ pub mod Rounds
 pub mod Schedules
 pub mod Slots
 pub mod Taken
+pub mod Timetables

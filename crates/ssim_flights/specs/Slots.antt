@@ -1,6 +1,6 @@
 -- Flights in slots by number, suffix and the local days on which their legs depart.
 use Rattle.std.specs.Prelude.{◌≡◌, ℕ, zero, suc, ◌+◌, ◌*◌, ◌%◌, ◌≤◌, ◌<◌, ◌==◌, ◌&&◌, nat_eq, Bool, false, if◌then◌else◌, List, [], ◌∷◌, length, drop, Option, Some, None, slice_get, slice_index_or, unwrap_or}
-use Rattle.std.specs.Option.{option_or}
+use Rattle.std.specs.Option.{option_eq, option_or}
 use Rattle.std.specs.List.{list_any}
 use Rattle.std.specs.Map.{lookup}
 use Rattle.std.specs.Cmp.Lexicographic.{pointwise}
@@ -79,6 +79,14 @@ pub record IsInside (held : Slots) : Type 0 where
 -- the leg departs where and when it is wanted
 abbrev pub departs : DatedLeg → Wanted → Bool
 departs leg w = (leg.day == w.day) && pointwise nat_eq leg.board w.board
+
+-- the number and the suffix that are wanted
+abbrev pub is_wanted : Wanted → ℕ → Option ℕ → Bool
+is_wanted w number suffix = (number == w.number) && option_eq nat_eq suffix w.suffix
+
+abbrev pub has_name : Wanted → Option Flight → Bool
+has_name w None = false
+has_name w (Some flight) = is_wanted w flight.number flight.suffix
 
 abbrev pub place_of : ℕ → Wanted → Option Flight → Option Place
 place_of n wanted None = None

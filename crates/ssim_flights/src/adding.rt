@@ -1,28 +1,28 @@
 //! Adding the flights of one itinerary to those of the earlier ones.
 ghost use Rattle.std.specs.Prelude.{◌≡◌, ◌+◌, ◌≤◌, nat_lt, All, Err, IfErr, OnOk, Some, length};
 ghost use Rattle.std.specs.List.{list_any};
-ghost use Rattle.ssim_flights.specs.LegChains.{first_record_if};
+ghost use Rattle.ssim_flights.specs.LegChains.{chain, first_record_if};
 ghost use Rattle.ssim_flights.specs.Adding.{IsAdded, IsChainAdded};
 ghost use Rattle.ssim_flights.specs.Flown.{days_fault, departures_on, fault_of, leg_one_if, IsRefusal};
 ghost use Rattle.ssim_flights.specs.Right.{IsRightLeg};
-ghost use Rattle.ssim_flights.specs.Schedules.{flights_on, rows};
+ghost use Rattle.ssim_flights.specs.Schedules.{flights_on, rows, schedule};
 ghost use Rattle.ssim_flights.specs.Taken.{has_departure};
+ghost use Rattle.ssim_flights.specs.Timetables.{flights_in, IsTable};
 
 use crate::chain::{broken_chain, chain, missing_leg, repeated_leg};
 use crate::fault::{FlightFault, FlightKind};
-use crate::flight::Flight;
-use crate::flown::{Departure, fly_all, is_taken, take_all};
+use crate::flown::{Departure, is_taken, take_all};
 use crate::plan::Plan;
 use crate::rows::{RowRange, differing, falling_back, rows};
 use crate::schedule::{Scheduled, schedule};
+use crate::timetable::Timetable;
 use ssim_records::Leg;
-use std::alloc::Global;
 use std::collections::HashSet;
 
 /// The flights so far, and their departures.
 #[derive(Drop)]
 pub(crate) struct Flown {
-    pub flights: Vec<Flight>,
+    pub flights: Timetable,
     pub taken: HashSet<Departure>,
 }
 
@@ -35,7 +35,6 @@ pub(crate) struct Workspace {
 
 /// Adds the flights of an itinerary.
 pub(crate) fn add(
-    alloc: Global,
     plan: &Plan,
     legs: &[Leg],
     space: &mut Workspace,
@@ -43,9 +42,11 @@ pub(crate) fn add(
 ) -> Result<(), FlightFault>
     requires right { All IsRightLeg legs.now }
     requires end { plan.now.end ≤ 47846 }
+    requires table { IsTable flown.old.flights }
+    requires few { length (flights_in flown.old.flights) ≤ 100000 }
     ensures ok { OnOk result (IsAdded plan.now legs.now flown.old flown.new) }
     ensures fault { IfErr result (λ fault. IsRefusal fault
-        (fault_of plan.now (has_departure flown.old.taken) (length flown.old.flights.items) legs.now)) }
+        (fault_of plan.now (has_departure flown.old.taken) (length (flights_in flown.old.flights)) legs.now)) }
 {
     if let Some(serial) = missing_leg(legs) {
         return refuse(serial, FlightKind::MissingLeg);
@@ -64,7 +65,7 @@ pub(crate) fn add(
         return Err(FlightFault::of_memory());
     };
     let scheduled = space.scheduled.as_slice();
-    add_chain(alloc, plan, legs, scheduled, flown)
+    add_chain(plan, legs, scheduled, flown)
 }
 
 fn refuse(serial: u32, kind: FlightKind) -> Result<(), FlightFault>
@@ -75,15 +76,19 @@ fn refuse(serial: u32, kind: FlightKind) -> Result<(), FlightFault>
 
 /// Adds the flights of a chain.
 fn add_chain(
-    alloc: Global,
     plan: &Plan,
     legs: &[Leg],
     chained: &[Scheduled],
     flown: &mut Flown,
 ) -> Result<(), FlightFault>
+    requires right { All IsRightLeg legs.now }
+    requires end { plan.now.end ≤ 47846 }
+    requires chained { chained.now ≡ schedule plan.now (chain legs.now) }
+    requires table { IsTable flown.old.flights }
+    requires few { length (flights_in flown.old.flights) ≤ 100000 }
     ensures ok { OnOk result (IsChainAdded plan.now legs.now chained.now flown.old flown.new) }
     ensures fault { IfErr result (λ fault. IsRefusal fault
-        (days_fault plan.now (has_departure flown.old.taken) (length flown.old.flights.items) legs.now chained.now)) }
+        (days_fault plan.now (has_departure flown.old.taken) (length (flights_in flown.old.flights)) legs.now chained.now)) }
 {
     let indices = rows(plan, chained);
     if let Some(fault) = days_fault(plan, flown, legs, chained, &indices) {
@@ -92,8 +97,7 @@ fn add_chain(
     let Some((first, _rest)) = chained.split_first() else {
         return Ok(());
     };
-    let flights = &mut flown.flights;
-    let Ok(()) = fly_all(alloc, flights, plan, &first.leg, chained, &indices) else {
+    let Ok(()) = flown.flights.add(plan, &first.leg, chained, &indices) else {
         return Err(FlightFault::of_memory());
     };
     let Ok(()) = take_all(&mut flown.taken, first, &indices) else {
@@ -113,7 +117,7 @@ fn days_fault(
 ) -> Option<FlightFault>
     requires { indices.now ≡ rows plan.now chained.now }
     ensures { result
-        ≡ days_fault plan.now (has_departure flown.now.taken) (length flown.now.flights.items) legs.now chained.now }
+        ≡ days_fault plan.now (has_departure flown.now.taken) (length (flights_in flown.now.flights)) legs.now chained.now }
 {
     if let Some(serial) = differing(chained) {
         return found(serial, FlightKind::LegDatesDiffer);

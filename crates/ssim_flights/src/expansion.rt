@@ -11,6 +11,7 @@ use crate::fault::FlightFault;
 use crate::flights::Flights;
 use crate::itinerary::itineraries;
 use crate::plan::Plan;
+use crate::timetable::Timetable;
 use airline_base::Day;
 use ssim_records::{Carrier, DataSet};
 use std::alloc::Global;
@@ -46,7 +47,7 @@ pub fn expand(
         return Err(FlightFault::of_memory());
     };
     let mut flown = Flown {
-        flights: Vec::new(alloc),
+        flights: Timetable::new(alloc),
         taken: HashSet::new(alloc),
     };
     let mut space = Workspace {
@@ -54,7 +55,7 @@ pub fn expand(
         scheduled: Vec::new(alloc),
     };
     for legs in all.as_slice() {
-        if let Err(fault) = add(alloc, &plan, legs.as_slice(), &mut space, &mut flown) {
+        if let Err(fault) = add(&plan, legs.as_slice(), &mut space, &mut flown) {
             return Err(fault);
         }
     }

@@ -1,19 +1,84 @@
 //! A flight on its dates, and what a passenger asks for.
-use airline_base::{Airline, Day, Items, Station};
+ghost use Rattle.std.specs.Prelude.{◌≡◌, ◌<◌, ◌==◌, ◌++◌, ◌∷◌, [], length};
+
+use airline_base::{Airline, Day, Station};
+use arrayvec::ArrayVec;
+use std::marker::Model;
 
 /// A leg on its local day of departure.
 #[derive(Clone, Copy)]
 pub struct DatedLeg {
-    pub board: Station,
-    pub off: Station,
     /// The local day of departure at the board point.
     pub day: Day,
     /// The aircraft's scheduled local time of departure there, in minutes of the day, 0 to 1440.
     pub time: u16,
+    pub board: Station,
+    pub off: Station,
 }
 
-/// The legs of a flight, in order.
-pub type DatedLegs = Items<DatedLeg>;
+impl Default for DatedLeg {
+    fn default() -> Self {
+        let station = Station::new(b"AAA").unwrap();
+        DatedLeg {
+            day: Day::numbered(10957),
+            time: 0,
+            board: station,
+            off: station,
+        }
+    }
+}
+
+/// The legs of a flight in order, at most 8. They lie in the value itself.
+#[derive(Drop)]
+pub struct DatedLegs {
+    legs: ArrayVec<DatedLeg, 8>,
+}
+
+impl Model for DatedLegs {
+    ghost use Rattle.std.specs.Prelude.{List};
+    ghost use Rattle.ssim_flights.specs.declared.flight.DatedLeg.{DatedLeg};
+
+    ghost Value = { List DatedLeg };
+
+    ghost view = { λ l. l.legs.items };
+}
+
+impl DatedLegs {
+    pub fn as_slice(&self) -> &[DatedLeg]
+        ensures { result.now ≡ self.now }
+    {
+        self.legs.as_slice()
+    }
+
+    pub fn len(&self) -> usize
+        ensures { result ≡ length self.now }
+    {
+        self.legs.len()
+    }
+
+    pub fn is_empty(&self) -> bool
+        ensures { result ≡ (length self.now == 0) }
+    {
+        self.legs.is_empty()
+    }
+
+    /// No legs.
+    pub(crate) fn new() -> Self
+        ensures { result ≡ [] }
+    {
+        DatedLegs {
+            legs: ArrayVec::new(),
+        }
+    }
+
+    /// Adds a leg at the end, for which there is room.
+    pub(crate) fn push(&mut self, leg: DatedLeg)
+        requires { length self.old < 8 }
+        ensures { self.new ≡ self.old ++ leg ∷ [] }
+    {
+        self.legs.push(leg);
+    }
+}
 
 /// A flight of the horizon, with its legs.
 #[derive(Drop)]

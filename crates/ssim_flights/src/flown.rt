@@ -1,25 +1,47 @@
-//! The flights of the itineraries so far.
-ghost use Rattle.std.specs.Prelude.{◌≡◌, ◌<◌, ◌++◌, ◌∷◌, [], All, OnOk, length, map};
+//! The departures of the flights so far.
+ghost use Rattle.std.specs.Prelude.{◌≡◌, ◌<◌, ◌∷◌, [], All, OnOk, length, map};
 ghost use Rattle.std.specs.List.{list_any};
+ghost use Rattle.std.specs.Hash as fed;
+ghost use Rattle.std.specs.Cmp.Rules.{hashing};
+ghost use Rattle.std.proofs.Common.{rules};
 ghost use Rattle.ssim_flights.specs.Flown.{departure};
-ghost use Rattle.ssim_flights.specs.Schedules.{flight_on, Reaches};
+ghost use Rattle.ssim_flights.specs.Hashing.{departure_number};
 ghost use Rattle.ssim_flights.specs.Taken.{has_departure, Takes};
 
-use crate::flight::{DatedLegs, Flight};
-use crate::plan::Plan;
-use crate::rows::{RowRange, flight_on};
+use crate::hashing::suffix_number;
+use crate::rows::RowRange;
 use crate::schedule::Scheduled;
-use airline_base::{Airline, Day, Memory};
-use ssim_records::Leg;
-use std::alloc::Global;
+use airline_base::{Day, Memory};
 use std::collections::HashSet;
+use std::hash::{Hash, Hasher};
 
 /// What tells the flights of a carrier apart: flight number, suffix and first operating day.
-#[derive(Clone, Copy, PartialEq, Eq, Hash)]
+#[derive(Clone, Copy, PartialEq, Eq)]
 pub(crate) struct Departure {
     pub number: u16,
     pub suffix: Option<u8>,
     pub day: Day,
+}
+
+impl Departure {
+    fn as_number(&self) -> u64
+        ensures { result ≡ departure_number self.now }
+    {
+        u64::from(self.number)
+            + 65_536 * suffix_number(self.suffix)
+            + 4_294_967_296 * u64::from(self.day.number())
+    }
+}
+
+/// The fields are hashed as one number, since each write to a hasher costs.
+impl Hash for Departure {
+    ghost hash_input = { λ d. fed.u64 (departure_number d) };
+
+    ghost respects_eq = { Prim.search (hashing, rules) };
+
+    fn hash<H: Hasher>(&self, state: &mut H) {
+        state.write_u64(self.as_number());
+    }
 }
 
 fn departure_on(leg: &Scheduled, i: usize) -> Departure
@@ -69,29 +91,5 @@ fn take(taken: &mut HashSet<Departure>, departure: Departure) -> Result<(), Memo
     let Ok(_) = taken.insert(departure) else {
         return Err(Memory);
     };
-    Ok(())
-}
-
-/// Adds the flights of the rows.
-pub(crate) fn fly_all(
-    alloc: Global,
-    flights: &mut Vec<Flight>,
-    plan: &Plan,
-    first: &Leg,
-    legs: &[Scheduled],
-    rows: &RowRange,
-) -> Result<(), Memory>
-    requires { All (Reaches legs.now) rows.now }
-    ensures { OnOk result
-        (flights.new.items ≡ flights.old.items ++ map (flight_on plan.now first.now legs.now) rows.now) }
-{
-    for k in 0..rows.len() {
-        let Ok(flight) = flight_on(alloc, plan, first, legs, rows.at(k)) else {
-            return Err(Memory);
-        };
-        let _airline: &Airline = &flight.airline;
-        let _legs: &DatedLegs = &flight.legs;
-        flights.push(flight)?;
-    }
     Ok(())
 }

@@ -60,7 +60,9 @@ impl LegLists {
         let _suffix: Option<u8> = leg.suffix;
         let _from: Day = leg.from;
         let _board: Station = leg.board;
-        let mut legs = Legs::new(alloc);
+        let Ok(mut legs) = Legs::with_room(alloc, 1) else {
+            return Err(Memory);
+        };
         let Ok(()) = legs.push(leg) else {
             return Err(Memory);
         };

@@ -1,22 +1,23 @@
 //! The first place on a flight by what is asked for.
 ghost use Rattle.std.specs.Prelude.{◌≡◌, ◌+◌, ◌≤◌, length};
 ghost use Rattle.std.specs.Map.{lookup};
-ghost use Rattle.ssim_flights.specs.Few.{AreFew};
 ghost use Rattle.ssim_flights.specs.Places.{ends_from, places_from, same_wanted};
 ghost use Rattle.ssim_flights.specs.Slots.{departs, place_on};
 
 use crate::flight::{DatedLeg, Flight, Wanted};
+use crate::flights::Flights;
 use airline_base::Place;
 
 /// The first place on a flight that serves what is wanted.
-pub(crate) fn place_on(flights: &[Flight], n: u32, wanted: &Wanted) -> Option<Place>
-    requires { AreFew flights.now }
+#[tactic(auto, using(crate::proofs::FirstPlaces::named_inside, crate::proofs::FirstPlaces::other_name, crate::proofs::FirstPlaces::known_place))]
+pub(crate) fn place_on(flights: &Flights, n: u32, wanted: &Wanted) -> Option<Place>
     ensures { result ≡ place_on flights.now n wanted.now }
 {
-    let Some(flight) = flights.get(n as usize) else {
+    if !flights.is_named(n, wanted) {
         return None;
-    };
-    place_from(flight, n, 0, flight.legs.as_slice(), wanted)
+    }
+    let flight = flights.flight(n);
+    place_from(&flight, n, 0, flight.legs.as_slice(), wanted)
 }
 
 /// The first place that begins with one of the last legs of a flight.

@@ -1,10 +1,12 @@
 //! The operating days of a leg by rounds of one or two weeks: any of them is found without those before it.
-ghost use Rattle.std.specs.Prelude.{◌≡◌, ◌≤◌, ◌<◌, nat_lt, filter, length, slice_index};
+ghost use Rattle.std.specs.Prelude.{◌≡◌, ◌≤◌, ◌<◌, nat_lt, pos, negsuc, ◌≤ℤ◌, All, filter, length, slice_index};
 ghost use Rattle.ssim_flights.specs.Operating.{days_among, operating_days};
 ghost use Rattle.ssim_flights.specs.Right.{IsRightLeg};
 ghost use Rattle.ssim_flights.specs.Rounds.{AreBefore, round_days};
+ghost use Rattle.ssim_flights.specs.Timetables.{AreLocals, AreShifted};
 
 use crate::days::{RoundDays, days_among, days_of_period};
+use crate::local_days::{LocalDays, local_day};
 use airline_base::Day;
 use ssim_records::Leg;
 use std::marker::Model;
@@ -67,6 +69,19 @@ impl Rounds {
         Day::numbered(number)
     }
 
+    /// The local days that lie so many days after these.
+    pub(crate) fn locals(&self, after: i32) -> LocalDays
+        requires low { negsuc 1 ≤ℤ after }
+        requires high { after ≤ℤ pos 8 }
+        ensures { AreLocals after self.now result }
+    {
+        LocalDays {
+            first: shifted(self.first.as_slice(), after),
+            many: self.first.len() as u8,
+            round: round_days(self.leg.second_week) as u8,
+        }
+    }
+
     /// How many of them lie before the day with this number.
     pub(crate) fn before(&self, number: u32) -> usize
         ensures { AreBefore self.now number result }
@@ -74,6 +89,22 @@ impl Rounds {
         let days = number.saturating_sub(self.leg.from.number());
         count_among(&self.leg, self.first.as_slice(), days).min(self.count)
     }
+}
+
+/// The numbers of the days that lie so many days after those of a round.
+fn shifted(days: &[u32], after: i32) -> [u16; 14]
+    requires few { length days.now ≤ 14 }
+    requires days { All (λ d. (10957 ≤ d) × (d ≤ 47846)) days.now }
+    requires low { negsuc 1 ≤ℤ after }
+    requires high { after ≤ℤ pos 8 }
+    ensures { AreShifted after days.now (length days.now) result }
+{
+    let mut shifted_days = [0u16; 14];
+    for j in 0..days.len() {
+        let day = local_day(Day::numbered(days[j]), after);
+        shifted_days[j] = day.number() as u16;
+    }
+    shifted_days
 }
 
 /// After how many days the days of operation come again.

@@ -1,14 +1,10 @@
-//! The dated flights of one chain of legs, and what can be wrong with its days.
-ghost use Rattle.std.specs.Prelude.{◌≡◌, ◌<◌, All, IfOk, get_or, is_none, length};
+//! The rows of one chain of legs, and what can be wrong with its days.
+ghost use Rattle.std.specs.Prelude.{◌≡◌, ◌<◌, All, get_or, is_none, length};
 ghost use Rattle.std.specs.List.{list_any};
-ghost use Rattle.ssim_flights.specs.Schedules.{differing, falling_after, falling_at, flight_on, rows, Reaches};
+ghost use Rattle.ssim_flights.specs.Schedules.{differing, falling_after, falling_at, rows, Reaches};
 
-use crate::flight::{DatedLeg, DatedLegs, Flight};
 use crate::plan::Plan;
 use crate::schedule::{Scheduled, shortest};
-use airline_base::Memory;
-use ssim_records::Leg;
-use std::alloc::Global;
 use std::marker::Model;
 
 /// Indices that follow one another. Contracts see them as their list.
@@ -88,10 +84,14 @@ fn has_open_end(legs: &[Scheduled]) -> bool
 }
 
 /// The serial of the first leg, by row and then by leg, that departs more than one local day before the leg ahead of it.
+#[tactic(auto, using(crate::proofs::Chaining::none_falls))]
 pub(crate) fn falling_back(legs: &[Scheduled], rows: &RowRange) -> Option<u32>
     requires { All (Reaches legs.now) rows.now }
     ensures { result ≡ falling_at legs.now rows.now }
 {
+    if legs.len() < 2 {
+        return None;
+    }
     for k in 0..rows.len() {
         if let Some(serial) = falling_on(legs, rows.at(k)) {
             return Some(serial);
@@ -113,37 +113,4 @@ fn falling_on(legs: &[Scheduled], i: usize) -> Option<u32>
         before = local;
     }
     None
-}
-
-/// The flight of one row.
-pub(crate) fn flight_on(
-    alloc: Global,
-    plan: &Plan,
-    first: &Leg,
-    legs: &[Scheduled],
-    i: usize,
-) -> Result<Flight, Memory>
-    requires { Reaches legs.now i }
-    ensures { IfOk result (λ flight. flight ≡ flight_on plan.now first.now legs.now i) }
-{
-    let Ok(mut dated) = DatedLegs::with_room(alloc, legs.len()) else {
-        return Err(Memory);
-    };
-    for leg in legs {
-        let on_its_day = DatedLeg {
-            board: leg.leg.board,
-            off: leg.leg.off,
-            day: leg.local(i),
-            time: leg.time,
-        };
-        let Ok(()) = dated.push(on_its_day) else {
-            return Err(Memory);
-        };
-    }
-    Ok(Flight {
-        airline: plan.airline,
-        number: first.number,
-        suffix: first.suffix,
-        legs: dated,
-    })
 }

@@ -1,10 +1,12 @@
 //! Legs with the days of their operations.
-ghost use Rattle.std.specs.Prelude.{◌≡◌, ◌≤◌, ◌<◌, All, OnOk, length, map, slice_index, unsigned_abs, pos, negsuc, ◌+ℤ◌, ◌≤ℤ◌};
+ghost use Rattle.std.specs.Prelude.{◌≡◌, ◌≤◌, ◌<◌, All, OnOk, length, map, slice_index, pos, negsuc, ◌≤ℤ◌};
 ghost use Rattle.ssim_flights.specs.Operating.{operation};
 ghost use Rattle.ssim_flights.specs.Right.{IsRightLeg};
 ghost use Rattle.ssim_flights.specs.Rounds.{AreBefore};
 ghost use Rattle.ssim_flights.specs.Schedules.{day_at, days_after, local_at, local_time, schedule, scheduled, shortest};
+ghost use Rattle.ssim_flights.specs.Timetables.{AreLocalsOf};
 
+use crate::local_days::{LocalDays, local_day};
 use crate::plan::Plan;
 use crate::rounds::Rounds;
 use airline_base::{Day, Memory, Station};
@@ -66,6 +68,13 @@ impl Operations {
         ensures { result ≡ slice_index (map (λ o. o.local) self.now) i }
     {
         local_day(self.days.day(i), self.after)
+    }
+
+    /// Their local days in few bytes.
+    pub(crate) fn locals(&self) -> LocalDays
+        ensures { AreLocalsOf self.now result }
+    {
+        self.days.locals(self.after)
     }
 
     fn before(&self, number: u32) -> usize
@@ -143,18 +152,6 @@ fn schedule_leg(plan: &Plan, leg: &Leg) -> Scheduled
         operations,
         time,
     }
-}
-
-/// The local day of departure, so many days after an operating day.
-fn local_day(day: Day, after: i32) -> Day
-    requires begun { 10957 ≤ day }
-    requires lasts { day ≤ 47846 }
-    requires low { negsuc 1 ≤ℤ after }
-    requires high { after ≤ℤ pos 8 }
-    ensures { result ≡ unsigned_abs (pos day +ℤ after) }
-{
-    let number = day.number() as i32 + after;
-    Day::numbered(number as u32)
 }
 
 /// How many days the local day lies after the operating day.

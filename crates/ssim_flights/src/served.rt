@@ -34,7 +34,7 @@ impl<'a> Served<'a> {
     pub fn new(alloc: Global, flights: &'a Flights) -> Result<Served<'a>, Memory>
         ensures { IfOk result (λ served. served ≡ flights.now) }
     {
-        let Ok(slots) = slots_for(alloc, flights.as_slice()) else {
+        let Ok(slots) = slots_for(alloc, flights) else {
             return Err(Memory);
         };
         Ok(Served { flights, slots })
@@ -46,6 +46,6 @@ impl<'a> Served<'a> {
     pub fn find(&self, wanted: &Wanted) -> Option<Place>
         ensures { result ≡ place_wanted self.now wanted.now }
     {
-        self.slots.place(self.flights.as_slice(), wanted)
+        self.slots.place(self.flights, wanted)
     }
 }

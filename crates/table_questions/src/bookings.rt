@@ -98,7 +98,7 @@ fn put_booking(
     let legs = flight.legs.as_slice();
     let first = &legs[place.from as usize];
     let last = &legs[place.to as usize];
-    let row = booking_row(booking, flight, first, last);
+    let row = booking_row(booking, &flight, first, last);
     put_row(alloc, sheet, &names(), &row)?;
     Ok(())
 }

@@ -163,7 +163,7 @@ fn over_legs(flights: &Flights, core: &Core, asked: &LoadsOf, count: Count, clas
 {
     let mut total = 0u64;
     for index in 0..flights.len() {
-        total += flight_count(core, asked, count, class, index, flights.flight(index));
+        total += flight_count(core, asked, count, class, index, &flights.flight(index));
     }
     total
 }

@@ -151,7 +151,8 @@ pub fn days_from(flights: &Flights) -> u32
 {
     let mut day = 84_005;
     for index in 0..flights.len() {
-        day = earliest(day, flights.flight(index).legs.as_slice());
+        let flight = flights.flight(index);
+        day = earliest(day, flight.legs.as_slice());
     }
     day
 }
@@ -178,7 +179,8 @@ pub fn latest_of(flights: &Flights) -> u32
 {
     let mut day = 0;
     for index in 0..flights.len() {
-        day = latest(day, flights.flight(index).legs.as_slice());
+        let flight = flights.flight(index);
+        day = latest(day, flight.legs.as_slice());
     }
     day
 }

@@ -44,7 +44,7 @@ impl Table for FlightSums {
                 core,
                 &self.loads,
                 index,
-                flights.flight(index),
+                &flights.flight(index),
             )?;
         }
         Ok(())

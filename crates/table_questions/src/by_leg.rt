@@ -49,7 +49,7 @@ impl Table for LegSums {
                 core,
                 &self.loads,
                 index,
-                flights.flight(index),
+                &flights.flight(index),
             )?;
         }
         Ok(())

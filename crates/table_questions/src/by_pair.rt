@@ -171,7 +171,8 @@ fn kept_pairs(
 {
     let mut pairs = Vec::new(alloc);
     for index in 0..flights.len() {
-        add_legs(&mut pairs, asked, flights.flight(index).legs.as_slice())?;
+        let flight = flights.flight(index);
+        add_legs(&mut pairs, asked, flight.legs.as_slice())?;
     }
     Ok(pairs)
 }

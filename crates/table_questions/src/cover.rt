@@ -279,7 +279,7 @@ fn put_flights(
             rows,
             coverage,
             index,
-            flights.flight(index),
+            &flights.flight(index),
         )?;
     }
     Ok(())

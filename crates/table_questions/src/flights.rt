@@ -89,7 +89,7 @@ fn put_flights(alloc: Global, sheet: &mut Sheet, flights: &Flights) -> Result<()
     ensures { OnOk result (ArePut flight_names (rows_from rows_of_flight 0 flights.now) sheet.old sheet.new) }
 {
     for index in 0..flights.len() {
-        put_legs(alloc, sheet, index, flights.flight(index))?;
+        put_legs(alloc, sheet, index, &flights.flight(index))?;
     }
     Ok(())
 }

@@ -52,7 +52,7 @@ impl Table for LoadTable {
                 core,
                 &self.loads,
                 index,
-                flights.flight(index),
+                &flights.flight(index),
             )?;
         }
         Ok(())

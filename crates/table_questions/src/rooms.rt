@@ -86,7 +86,7 @@ fn put_flights(
             core,
             asked,
             index,
-            flights.flight(index),
+            &flights.flight(index),
         )?;
     }
     Ok(())

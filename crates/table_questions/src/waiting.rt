@@ -102,7 +102,7 @@ fn put_waiter(
     let legs = flight.legs.as_slice();
     let first = &legs[place.from as usize];
     let last = &legs[place.to as usize];
-    let row = waiting_row(core, booking, flight, first, last);
+    let row = waiting_row(core, booking, &flight, first, last);
     put_row(alloc, sheet, &names(), &row)?;
     Ok(())
 }

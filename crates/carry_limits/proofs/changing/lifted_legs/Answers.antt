@@ -7,10 +7,10 @@ use Rattle.carry_limits.proofs.changing.lifted_legs.Goals as goal
 
 pub loop-index-preserved : goal.loop-index-preserved
 loop-index-preserved c =
-    rows_more c.args.lifted.now (state_of c.args.file.now []) legs_on c.loop-index.index _ c.loop-index.index c.args.flights.now c.flight.result.now
+    rows_more c.args.lifted.now (state_of c.args.file.now []) legs_on c.loop-index.index _ c.loop-index.index c.args.flights.now c.flight.result
     c.loop-index.all.items c.add_lifted.new.all.items _ c.loop-index.invariant
-    (there c.args.flights.now c.loop-index.index c.flight.result.now c.flight.ensures.value)
-    (here c.args.flights.now c.loop-index.index c.flight.result.now c.flight.ensures.value) c.in_ok-add_lifted.ensures refl
+    (there c.args.flights.now c.loop-index.index c.flight.result c.flight.ensures.value)
+    (here c.args.flights.now c.loop-index.index c.flight.result c.flight.ensures.value) c.in_ok-add_lifted.ensures refl
 
 pub returns : goal.returns
 returns c =

@@ -1,5 +1,5 @@
 -- The ladders of the flights so far are there, and each of them, and of the file's, is a ladder or none.
-use Rattle.std.proofs.Common.{◌≡◌, ◌++◌, ℕ, drop}
+use Rattle.std.proofs.Common.{◌≡◌, ◌++◌, [], ℕ, drop}
 use Rattle.seat_nesting.specs.Nesting.{IsLegLadder, ladder_at}
 use Rattle.limit_changes.specs.Legs.{each_from}
 use Rattle.carry_limits.specs.Legs.{flight_ladders}
@@ -9,8 +9,9 @@ use Rattle.carry_limits.proofs.lifting.lifted_limits.Given as goal
 
 abbrev pub invariant-loop-flight : goal.invariant-loop-flight
 invariant-loop-flight l = record {
-  so_far : l.grid.items ++ each_from (flight_ladders (lifted_on l.seasons l.by)) l.flight (drop l.flight l.flights)
+  so_far : l.plan.flights ++ each_from (flight_ladders (lifted_on l.seasons l.by)) l.flight (drop l.flight l.flights)
       ≡ lifted_limits l.seasons l.by;
-  nested : (flight leg : ℕ) → IsLegLadder (ladder_at l.grid.items flight leg);
+  closed : l.plan.legs ≡ [];
+  nested : (flight leg : ℕ) → IsLegLadder (ladder_at l.plan.flights flight leg);
   file : FlightsNest l.seasons.file.now l.flights l.flight;
 }

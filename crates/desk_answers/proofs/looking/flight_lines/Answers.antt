@@ -22,10 +22,10 @@ loop-index-preserved g c =
     let numbers : List ℕ = c.on-numbers.result.now in
     let k : ℕ = c.loop-index.index-index in
     let index : ℕ = get_or numbers k 0 in
-    let is_line : IsFlightLine flights grid state count look index c.flight-flight.result.now line =
-    subst (λ (l : List Flight). IsFlightLine l grid state count look index c.flight-flight.result.now line) c.requires.served c.in_ok-line.ensures in
+    let is_line : IsFlightLine flights grid state count look index c.flight-flight.result line =
+    subst (λ (l : List Flight). IsFlightLine l grid state count look index c.flight-flight.result line) c.requires.served c.in_ok-line.ensures in
     let numbered : IsNumbered flights grid state count look (0 + k) index line =
-    record { flown = c.flight-flight.result.now; at = c.flight-flight.ensures.value; is_line = is_line } in
+    record { flown = c.flight-flight.result; at = c.flight-flight.ensures.value; is_line = is_line } in
     put_more (IsNumbered flights grid state count look) 0 k numbers index [] c.loop-index.text.items c.put.new.text.items line
     c.loop-index.invariant c.loop-index-test.true (get_or_default numbers k 0 index c.loop-index-test.true) numbered
     (c.in_ok-put.ensures ∙ ap (λ (l : List ℕ). c.loop-index.text.items ++ l) c.as_slice.ensures.value)

@@ -9,8 +9,8 @@ use Rattle.ssim_flights.specs.declared.flight.DatedLeg.{DatedLeg}
 pub loop-number-preserved : goal.loop-number-preserved
 loop-number-preserved g c =
     let limits : Ladders = (replay c.args.serving.now.grid c.args.serving.now.journal).grid in
-    flight_put limits c.args.today c.loop-number.number c.args.flights.now c.flight.result.now
-    (closings_from limits c.args.today 0 c.args.flights.now) c.loop-number.all.items c.put_legs.new.all.items c.flight.ensures.value
+    flight_put limits c.args.today c.loop-number.number c.args.flights.now c.flight-flight.result
+    (closings_from limits c.args.today 0 c.args.flights.now) c.loop-number.all.items c.put_legs.new.all.items c.flight-flight.ensures.value
     c.loop-number.invariant
     (c.in_ok-put_legs.ensures
     ∙ ap (λ (l : List DatedLeg). c.loop-number.all.items ++ closings_on limits c.args.today c.loop-number.number 0 l) c.as_slice.ensures)

@@ -6,9 +6,9 @@ use Rattle.limit_changes.proofs.legs.every_leg.Goals as goal
 
 pub loop-index-preserved : goal.loop-index-preserved
 loop-index-preserved c =
-    part_more legs_on c.loop-index.index _ c.loop-index.index c.args.flights.now c.flight.result.now c.loop-index.all.items c.add_each.new.all.items _
-    c.loop-index.invariant (there c.args.flights.now c.loop-index.index c.flight.result.now c.flight.ensures.value)
-    (here c.args.flights.now c.loop-index.index c.flight.result.now c.flight.ensures.value) c.in_ok-add_each.ensures refl
+    part_more legs_on c.loop-index.index _ c.loop-index.index c.args.flights.now c.flight.result c.loop-index.all.items c.add_each.new.all.items _
+    c.loop-index.invariant (there c.args.flights.now c.loop-index.index c.flight.result c.flight.ensures.value)
+    (here c.args.flights.now c.loop-index.index c.flight.result c.flight.ensures.value) c.in_ok-add_each.ensures refl
 
 pub returns : goal.returns
 returns c =

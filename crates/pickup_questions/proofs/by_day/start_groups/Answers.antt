@@ -10,8 +10,8 @@ loop-index-init c = ap (λ (l : List ℕ). l ++ start_groups c.args.first c.args
 
 pub loop-index-preserved : goal.loop-index-preserved
 loop-index-preserved c =
-    start_more c.args.first c.args.flights.now c.loop-index.index c.flight.result.now c.start_group.result c.loop-index.starts.items c.push.new.self.items _
-    c.loop-index.invariant (there c.args.flights.now c.loop-index.index c.flight.result.now c.flight.ensures.value) (here c.args.flights.now c.loop-index.index c.flight.result.now c.flight.ensures.value)
+    start_more c.args.first c.args.flights.now c.loop-index.index c.flight-flight.result c.start_group.result c.loop-index.starts.items c.push.new.self.items _
+    c.loop-index.invariant (there c.args.flights.now c.loop-index.index c.flight-flight.result c.flight-flight.ensures.value) (here c.args.flights.now c.loop-index.index c.flight-flight.result c.flight-flight.ensures.value)
     (c.start_group.ensures ∙ ap (λ (l : List DatedLeg). start_group c.args.first l) c.as_slice.ensures) c.in_ok-push.ensures.items
 
 pub returns : goal.returns

@@ -11,8 +11,8 @@ loop-index-init c = ap (λ (l : List CityPair). with_flights l c.args.flights.no
 
 pub loop-index-preserved : goal.loop-index-preserved
 loop-index-preserved c =
-    flight_more c.args.flights.now c.loop-index.index c.flight.result.now c.loop-index.pairs.items c.add_places.new.pairs.items _ c.loop-index.invariant
-    (there c.args.flights.now c.loop-index.index c.flight.result.now c.flight.ensures.value) (here c.args.flights.now c.loop-index.index c.flight.result.now c.flight.ensures.value)
+    flight_more c.args.flights.now c.loop-index.index c.flight-flight.result c.loop-index.pairs.items c.add_places.new.pairs.items _ c.loop-index.invariant
+    (there c.args.flights.now c.loop-index.index c.flight-flight.result c.flight-flight.ensures.value) (here c.args.flights.now c.loop-index.index c.flight-flight.result c.flight-flight.ensures.value)
     (c.in_ok-add_places.ensures ∙ ap (λ (l : List DatedLeg). with_places c.loop-index.pairs.items l) c.as_slice.ensures)
 
 pub returns : goal.returns

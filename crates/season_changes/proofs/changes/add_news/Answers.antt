@@ -8,7 +8,7 @@ loop-i-init c = refl
 
 pub loop-i-preserved : goal.loop-i-preserved
 loop-i-preserved c =
-    flight_more (λ i. of_new c.args.asked.now c.args._flights.now) c.args.asked.now.flights.now c.loop-i.i c.flight.result.now c.loop-i.all.items c.add_new.new.all.items
+    flight_more (λ i. of_new c.args.asked.now c.args._flights.now) c.args.asked.now.flights.now c.loop-i.i c.flight.result c.loop-i.all.items c.add_new.new.all.items
     (c.args.all.now.items ++ each_from (λ i. of_new c.args.asked.now c.args._flights.now) 0 c.args.asked.now.flights.now)
     c.loop-i.invariant c.flight.ensures.value c.in_ok-add_new.ensures
 

@@ -9,7 +9,7 @@ loop-i-init c = refl
 
 pub loop-i-preserved : goal.loop-i-preserved
 loop-i-preserved c =
-    flight_more (of_old c.args.asked.now c.args.core.now.grid (state_now c.args.core.now).bookings) c.args.flights.now c.loop-i.i c.flight.result.now c.loop-i.all.items c.add_old.new.all.items
+    flight_more (of_old c.args.asked.now c.args.core.now.grid (state_now c.args.core.now).bookings) c.args.flights.now c.loop-i.i c.flight.result c.loop-i.all.items c.add_old.new.all.items
     (c.args.all.now.items ++ each_from (of_old c.args.asked.now c.args.core.now.grid (state_now c.args.core.now).bookings) 0 c.args.flights.now)
     c.loop-i.invariant c.flight.ensures.value c.in_ok-add_old.ensures
 

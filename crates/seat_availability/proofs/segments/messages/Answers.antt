@@ -9,10 +9,10 @@ use Rattle.seat_availability.proofs.segments.messages.Goals as goal
 pub loop-index-preserved : goal.loop-index-preserved
 loop-index-preserved c =
     let tell = message_of c.args.asked.now (state_now c.args.core.now) in
-    part_more tell (segments_of_flight c.args.flights.now c.args.asked.now c.args.core.now.grid) c.loop-index.index _ c.loop-index.index c.args.flights.now c.flight.result.now
+    part_more tell (segments_of_flight c.args.flights.now c.args.asked.now c.args.core.now.grid) c.loop-index.index _ c.loop-index.index c.args.flights.now c.flight.result
     c.loop-index.all.items c.add_flight.new.all.items _ c.loop-index.invariant
-    (there c.args.flights.now c.loop-index.index c.flight.result.now c.flight.ensures.value) (here c.args.flights.now c.loop-index.index c.flight.result.now c.flight.ensures.value)
-    (subst (λ (l : List Flight). c.add_flight.new.all.items ≡ c.loop-index.all.items ++ map tell (segments_of_flight l c.args.asked.now c.args.core.now.grid c.loop-index.index c.flight.result.now))
+    (there c.args.flights.now c.loop-index.index c.flight.result c.flight.ensures.value) (here c.args.flights.now c.loop-index.index c.flight.result c.flight.ensures.value)
+    (subst (λ (l : List Flight). c.add_flight.new.all.items ≡ c.loop-index.all.items ++ map tell (segments_of_flight l c.args.asked.now c.args.core.now.grid c.loop-index.index c.flight.result))
     c.requires.served c.in_ok-add_flight.ensures) refl
 
 pub returns : goal.returns

@@ -4,7 +4,7 @@ use Rattle.seat_nesting.specs.Nesting.{Ladders}
 use Rattle.seat_limits.proofs.building.build_grid.Goals as goal
 
 pub of-requires : goal.of-requires
-of-requires c = record { distinct = c.in-Ok-legs_of_all.ensures.distinct }
+of-requires c = record { closed = c.in-Ok-plan_of.ensures.closed }
 
 pub returns : goal.returns
-returns c = subst (λ (g : Ladders). IfOk c.of.result (λ grid. grid ≡ g)) c.in-Ok-legs_of_all.ensures.legs c.of.ensures
+returns c = subst (λ (g : Ladders). IfOk c.of.result (λ grid. grid ≡ g)) c.in-Ok-plan_of.ensures.flights c.of.ensures

@@ -13,9 +13,9 @@ pub loop-index-preserved : goal.loop-index-preserved
 loop-index-preserved c =
     let legs = c.in_ok-put_kept_flight.ensures in
     let state = state_now c.args.core.now in
-    put_more (IsFlightPart c.args.asked.now state) 0 c.loop-index.index c.args.flights.now c.flight.result.now [] c.loop-index.text.items c.put_kept_flight.new.text.items legs.part
-    c.loop-index.invariant (there c.args.flights.now c.loop-index.index c.flight.result.now c.flight.ensures.value) (here c.args.flights.now c.loop-index.index c.flight.result.now c.flight.ensures.value)
-    (subst (λ (k : ℕ). IsFlightPart c.args.asked.now state k c.flight.result.now legs.part) (sym (zero-add c.loop-index.index)) legs.is_part) legs.written
+    put_more (IsFlightPart c.args.asked.now state) 0 c.loop-index.index c.args.flights.now c.flight.result [] c.loop-index.text.items c.put_kept_flight.new.text.items legs.part
+    c.loop-index.invariant (there c.args.flights.now c.loop-index.index c.flight.result c.flight.ensures.value) (here c.args.flights.now c.loop-index.index c.flight.result c.flight.ensures.value)
+    (subst (λ (k : ℕ). IsFlightPart c.args.asked.now state k c.flight.result legs.part) (sym (zero-add c.loop-index.index)) legs.is_part) legs.written
 
 pub returns : goal.returns
 returns c = text_whole (IsFlightPart c.args.asked.now (state_now c.args.core.now)) 0 c.loop-index.index c.len-index-end.result c.args.flights.now c.loop-index.text.items c.loop-index.invariant c.len-index-end.ensures.value c.loop-index-test.false
@@ -27,4 +27,4 @@ pub put_kept_flight-requires-clause-few : goal.put_kept_flight-requires-clause-f
 put_kept_flight-requires-clause-few c = c.flight.ensures.legs
 
 pub put_kept_flight-requires-clause-legs : goal.put_kept_flight-requires-clause-legs
-put_kept_flight-requires-clause-legs c = legs_alike c.args.flights.now c.args.core.now.grid c.loop-index.index c.flight.result.now c.requires.grid c.flight.ensures.value
+put_kept_flight-requires-clause-legs c = legs_alike c.args.flights.now c.args.core.now.grid c.loop-index.index c.flight.result c.requires.grid c.flight.ensures.value

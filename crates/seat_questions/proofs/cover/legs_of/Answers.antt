@@ -5,6 +5,6 @@ use Rattle.seat_questions.proofs.cover.legs_of.Goals as goal
 
 pub loop-i-preserved : goal.loop-i-preserved
 loop-i-preserved c = record {
-  total = sum_flight leg_count c.args.flights.now c.loop-i.i c.flight.result.now c.loop-i.count c.len.result c.loop-i.invariant.total c.flight.ensures.value c.len.ensures;
-  bound = omega (arith, c.loop-i.invariant.bound, c.flight.ensures.legs, c.len.ensures);
+  total = sum_flight leg_count c.args.flights.now c.loop-i.i c.flight-flight.result c.loop-i.count c.len.result c.loop-i.invariant.total c.flight-flight.ensures.value c.len.ensures;
+  bound = omega (arith, c.loop-i.invariant.bound, c.flight-flight.ensures.legs, c.len.ensures);
 }

@@ -5,7 +5,7 @@ use Rattle.seat_questions.proofs.coverage.days_among.Goals as goal
 
 pub loop-i-preserved : goal.loop-i-preserved
 loop-i-preserved c =
-    flight_more (days_of c.args.numbers.now) c.args.flights.now c.loop-i.i c.flight.result.now c.loop-i.days.items c.put_days.new.days.items c.loop-i.invariant c.flight.ensures.value c.in_ok-put_days.ensures
+    flight_more (days_of c.args.numbers.now) c.args.flights.now c.loop-i.i c.flight.result c.loop-i.days.items c.put_days.new.days.items c.loop-i.invariant c.flight.ensures.value c.in_ok-put_days.ensures
 
 pub returns : goal.returns
 returns c =

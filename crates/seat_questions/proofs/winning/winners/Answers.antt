@@ -4,7 +4,7 @@ use Rattle.seat_questions.proofs.winning.winners.Goals as goal
 
 pub loop-i-preserved : goal.loop-i-preserved
 loop-i-preserved c =
-    flight_marked c.args.rows.now c.args.flights.now c.loop-i.i c.flight.result.now c.loop-i.marks.items c.mark_legs.new.marks.items c.loop-i.invariant c.flight.ensures.value c.mark_legs.ensures
+    flight_marked c.args.rows.now c.args.flights.now c.loop-i.i c.flight.result c.loop-i.marks.items c.mark_legs.new.marks.items c.loop-i.invariant c.flight.ensures.value c.mark_legs.ensures
 
 pub returns : goal.returns
 returns c =

@@ -15,7 +15,7 @@ loop-number-preserved c =
     let numbers : List ℕ = c.on-numbers.result.now in
     let k : ℕ = c.loop-number.number-index in
     let number : ℕ = get_or numbers k 0 in
-    number_put c.args.row.now c.args.flights.now numbers k number c.flight-flight.result.now
+    number_put c.args.row.now c.args.flights.now numbers k number c.flight-flight.result
     (c.args.all.now.items ++ on_numbers c.args.row.now c.args.flights.now numbers) c.loop-number.all.items c.put_flight.new.all.items
     c.loop-number-test.true (get_or_default numbers k 0 number c.loop-number-test.true) c.flight-flight.ensures.value
     c.loop-number.invariant c.in_ok-put_flight.ensures

@@ -11,7 +11,7 @@ use Rattle.ssim_flights.proofs.expansion.expand.Goals as goal
 
 pub loop-legs-init : goal.loop-legs-init
 unfolding first_fault
-loop-legs-init c = (flown_none c.plan_of-plan.result _ c.new.ensures.items c.new-2.ensures.empty, refl)
+loop-legs-init c = (flown_none c.plan_of-plan.result _ c.new.ensures.none c.new.ensures.table c.new-2.ensures.empty, refl)
 
 pub add-requires-clause-right : goal.add-requires-clause-right
 add-requires-clause-right c =
@@ -46,6 +46,20 @@ loop-legs-preserved c =
       flown_more plan all i legs c.loop-legs.flown c.add.new.flown (omega arith) is c.loop-legs.invariant.0 c.in_default-add.ensures.ok,
       c.loop-legs.invariant.1 ∙ fault_more plan all i legs c.loop-legs.flown None (omega arith) is c.loop-legs.invariant.0 c.in_default-add.ensures.ok.faultless,
     )
+
+pub add-requires-clause-table : goal.add-requires-clause-table
+add-requires-clause-table c = c.loop-legs.invariant.0.table
+
+pub add-requires-clause-few : goal.add-requires-clause-few
+unfolding plan_of
+add-requires-clause-few c =
+    let most : c.plan_of-plan.result.most ≡ c.args.most = ap (λ (p : Plan). p.most) c.plan_of-plan.ensures in
+    let high = c.requires.most in
+    let few = c.loop-legs.invariant.0.few in
+    omega arith
+
+pub of-requires-clause-table : goal.of-requires-clause-table
+of-requires-clause-table c = c.loop-legs.invariant.0.table
 
 pub of-requires-clause-joined : goal.of-requires-clause-joined
 of-requires-clause-joined c = c.loop-legs.invariant.0.joined

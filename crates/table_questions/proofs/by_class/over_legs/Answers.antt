@@ -15,9 +15,9 @@ loop-index-init c = record {
 pub loop-index-preserved : goal.loop-index-preserved
 loop-index-preserved c = record {
   value =
-      sum_more (on_flight c.args.asked.now (class_count c.args.count (state_now c.args.core.now) c.args.class)) c.loop-index.index c.args.flights.now c.flight.result.now
+      sum_more (on_flight c.args.asked.now (class_count c.args.count (state_now c.args.core.now) c.args.class)) c.loop-index.index c.args.flights.now c.flight.result
       c.loop-index.total c.flight_count-total.result _ _ c.loop-index.invariant.value
-      (there c.args.flights.now c.loop-index.index c.flight.result.now c.flight.ensures.value) (here c.args.flights.now c.loop-index.index c.flight.result.now c.flight.ensures.value)
+      (there c.args.flights.now c.loop-index.index c.flight.result c.flight.ensures.value) (here c.args.flights.now c.loop-index.index c.flight.result c.flight.ensures.value)
       c.flight_count-total.ensures.value refl;
   few = omega (arith, c.loop-index.invariant.few, c.flight_count-total.ensures.few);
 }

@@ -10,7 +10,7 @@ loop-index-init c = days_none c.in_ok-days.days c.in_ok-days.ensures
 
 pub loop-index-preserved : goal.loop-index-preserved
 loop-index-preserved c =
-    let flight = c.flight-flight.result.now in
+    let flight = c.flight-flight.result in
     let index = c.loop-index.index in
     let listed : PutsLast c.loop-index.days c.add_legs.new.days index (in_list flight.legs) =
     subst (λ (l : List DatedLeg). PutsLast c.loop-index.days c.add_legs.new.days index (in_list l)) c.as_slice.ensures c.in_ok-add_legs.ensures in

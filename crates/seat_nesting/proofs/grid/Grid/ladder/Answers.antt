@@ -1,27 +1,33 @@
-use Rattle.std.proofs.Common.{◌≡◌, ◌∙◌, List, [], ap, subst, sym}
+use Rattle.std.proofs.Common.{◌≡◌, [], List, ap, sym, subst, ◌∙◌, arith}
 use Rattle.std.specs.Option.{IfNone, IfSome}
-use Rattle.seat_nesting.specs.Nesting.{Steps, Ladders, ladder_at, legs_of, steps_at}
-use Rattle.seat_nesting.proofs.Grids.{legs_there}
+use Rattle.seat_nesting.specs.Nesting.{Steps, Ladders}
+use Rattle.seat_nesting.specs.OwnLadders.{pool_of, steps_by}
+use Rattle.seat_nesting.specs.FlatCounts.{IsLaid}
+use Rattle.seat_nesting.specs.declared.laid_out.Layout.{Layout}
+use Rattle.seat_nesting.proofs.Grids.{leg_found, leg_is_at, leg_not_found}
 use Rattle.seat_nesting.proofs.grid.Grid.ladder.Goals as goal
+
+pub index-requires : goal.index-requires
+index-requires c =
+    let here : IsLaid c.self.inside.layout c.args.self.now = subst (λ (g : Ladders). IsLaid c.self.inside.layout g) c.self.view_is c.self.invariant in
+    let laid : IsLaid c.get-layout.result.now c.args.self.now = subst (λ (l : Layout). IsLaid l c.args.self.now) (sym c.get-layout.ensures) here in
+    let at = leg_is_at c.get-layout.result.now c.args.self.now c.deref.result.now c.args.flight c.args.leg c.in-Some.i c.leg_index.result laid c.deref.ensures.value c.leg_index.ensures c.in-Some.is in
+    omega (arith, at.inside, c.get-layout.result.now.legs.ok)
 
 pub returns-clause-found : goal.returns-clause-found
 returns-clause-found c =
-    let flight = c.args.flight in
-    let leg = c.args.leg in
-    let flights : Ladders = c.deref-2.result.now in
-    let legs : List Steps = c.in-Some.legs.now in
-    let same : flights ≡ c.args.self.now = c.deref-2.ensures.value ∙ (ap (λ v. v.items) c.deref.ensures ∙ c.self.view_is) in
-    let found : legs_of c.args.self.now flight ≡ legs = legs_there flights c.args.self.now flight legs same c.in-Some.ensures.lookup.0 c.in-Some.ensures.lookup.1 in
-    let steps : steps_at legs c.from.result ≡ ladder_at c.args.self.now flight leg = ap (steps_at legs) c.from.ensures ∙ ap (λ (ls : List Steps). steps_at ls leg) (sym found) in
-    subst (λ (s : Steps). IfSome c.ladder.result (λ l. l.now ≡ s)) steps c.ladder.ensures.found
+    let here : IsLaid c.self.inside.layout c.args.self.now = subst (λ (g : Ladders). IsLaid c.self.inside.layout g) c.self.view_is c.self.invariant in
+    let laid : IsLaid c.get-layout.result.now c.args.self.now = subst (λ (l : Layout). IsLaid l c.args.self.now) (sym c.get-layout.ensures) here in
+    let at = leg_is_at c.get-layout.result.now c.args.self.now c.deref.result.now c.args.flight c.args.leg c.in-Some.i c.leg_index.result laid c.deref.ensures.value c.leg_index.ensures c.in-Some.is in
+    let found = leg_found c.get-layout.result.now c.args.self.now c.args.flight c.args.leg c.in-Some.i c.index.result.now laid at c.index.ensures in
+    subst (λ (s : Steps). IfSome c.ladder.result (λ l. l.now ≡ s))
+    (ap (λ (s : List Steps). steps_by (pool_of s []) c.index.result.now.limits) c.deref-2.ensures.value ∙ found) c.ladder.ensures.found
 
 pub returns-clause-none : goal.returns-clause-none
 returns-clause-none c =
-    let flight = c.args.flight in
-    let leg = c.args.leg in
-    let flights : Ladders = c.deref-2.result.now in
-    let legs : List Steps = c.in-Some.legs.now in
-    let same : flights ≡ c.args.self.now = c.deref-2.ensures.value ∙ (ap (λ v. v.items) c.deref.ensures ∙ c.self.view_is) in
-    let found : legs_of c.args.self.now flight ≡ legs = legs_there flights c.args.self.now flight legs same c.in-Some.ensures.lookup.0 c.in-Some.ensures.lookup.1 in
-    let steps : steps_at legs c.from.result ≡ ladder_at c.args.self.now flight leg = ap (steps_at legs) c.from.ensures ∙ ap (λ (ls : List Steps). steps_at ls leg) (sym found) in
-    subst (λ (s : Steps). IfNone c.ladder.result (s ≡ [])) steps c.ladder.ensures.none
+    let here : IsLaid c.self.inside.layout c.args.self.now = subst (λ (g : Ladders). IsLaid c.self.inside.layout g) c.self.view_is c.self.invariant in
+    let laid : IsLaid c.get-layout.result.now c.args.self.now = subst (λ (l : Layout). IsLaid l c.args.self.now) (sym c.get-layout.ensures) here in
+    let at = leg_is_at c.get-layout.result.now c.args.self.now c.deref.result.now c.args.flight c.args.leg c.in-Some.i c.leg_index.result laid c.deref.ensures.value c.leg_index.ensures c.in-Some.is in
+    let found = leg_found c.get-layout.result.now c.args.self.now c.args.flight c.args.leg c.in-Some.i c.index.result.now laid at c.index.ensures in
+    subst (λ (s : Steps). IfNone c.ladder.result (s ≡ []))
+    (ap (λ (s : List Steps). steps_by (pool_of s []) c.index.result.now.limits) c.deref-2.ensures.value ∙ found) c.ladder.ensures.none

@@ -1,4 +1,4 @@
-use Rattle.std.proofs.Common.{◌≡◌, ◌∙◌, ℕ, None, Some, [], subst, sym}
+use Rattle.std.proofs.Common.{◌≡◌, [], subst, sym}
 use Rattle.std.specs.Option.{IfNone, IfSome}
 use Rattle.seat_nesting.specs.OwnLadders.{pool_of, steps_by}
 use Rattle.seat_nesting.specs.declared.limits.Limits.{Limits}
@@ -17,14 +17,14 @@ returns-in-Own-clause-none c =
     subst (λ (l : Limits). IfNone c.get-in-Own.result (steps_by pool l ≡ [])) (sym c.in-Own.is)
     (own_none c.args.own.now c.in-Own.i c.get-in-Own.result c.get-in-Own.ensures.lookup.0)
 
-pub returns-in_default-clause-none : goal.returns-in_default-clause-none
-returns-in_default-clause-none c =
+pub returns-in-Shared-clause-found : goal.returns-in-Shared-clause-found
+returns-in-Shared-clause-found c =
     let pool = pool_of c.args.shared.now c.args.own.now in
-    subst (λ (l : Limits). steps_by pool l ≡ []) (sym c.in-Shared.is) (own_none {T = ℕ} c.args.shared.now c.in-Shared.i None c.in_default.ensures.lookup.0)
+    subst (λ (l : Limits). IfSome c.get.result (λ x. x.now ≡ steps_by pool l)) (sym c.in-Shared.is)
+    (own_found c.args.shared.now c.in-Shared.i c.get.result (λ x. x.now) c.get.ensures.lookup.0 c.get.ensures.lookup.1)
 
-pub returns-in-Some-clause-found : goal.returns-in-Some-clause-found
-returns-in-Some-clause-found c =
+pub returns-in-Shared-clause-none : goal.returns-in-Shared-clause-none
+returns-in-Shared-clause-none c =
     let pool = pool_of c.args.shared.now c.args.own.now in
-    c.get-in-Shared.ensures
-    ∙ subst (λ (l : Limits). c.in-Some.ladder.now ≡ steps_by pool l) (sym c.in-Shared.is)
-    (own_found c.args.shared.now c.in-Shared.i (Some c.in-Some.ladder) (λ x. x.now) c.in-Some.ensures.lookup.0 c.in-Some.ensures.lookup.1)
+    subst (λ (l : Limits). IfNone c.get.result (steps_by pool l ≡ [])) (sym c.in-Shared.is)
+    (own_none c.args.shared.now c.in-Shared.i c.get.result c.get.ensures.lookup.0)

@@ -39,7 +39,7 @@ set-requires-in-Shared c =
     let i = c.in-Shared.i in
     let inside = shared_inside pool c.args.self i c.args.setting.now c.in-Shared.is c.requires.ladder in
     let old = shared_at pool c.args.self i c.index-shared-i.result c.in-Shared.is inside c.index-shared-i.is in
-    subst (λ (s : Steps). IsLadder (with_setting s c.args.setting.now)) (old ∙ sym (c.copy-ladder.ensures ∙ c.get.ensures)) c.requires.ladder
+    subst (λ (s : Steps). IsLadder (with_setting s c.args.setting.now)) (old ∙ sym c.copy-ladder.ensures) c.requires.ladder
 
 pub overflow_cast-number : goal.overflow_cast-number
 overflow_cast-number c =
@@ -56,7 +56,7 @@ returns-in-Shared-clause-own c =
     let pool = pool_of c.args.shared.now c.args.own.now.items in
     let i = c.in-Shared.i in
     let inside = shared_inside pool c.args.self i c.args.setting.now c.in-Shared.is c.requires.ladder in
-    let written = c.set-in-Shared.ensures ∙ ap (λ (s : Steps). with_setting s c.args.setting.now) (c.copy-ladder.ensures ∙ c.get.ensures) in
+    let written = c.set-in-Shared.ensures ∙ ap (λ (s : Steps). with_setting s c.args.setting.now) c.copy-ladder.ensures in
     c.push_reserved.ensures.items
     ∙ own_joined pool c.args.self i c.index-shared-i.result c.set-in-Shared.new.self c.args.setting.now c.in-Shared.is inside c.index-shared-i.is written
 

@@ -12,9 +12,9 @@ loop-index-init c = put_none leg_names c.args.sheet.now c.requires.ready
 
 pub loop-index-preserved : goal.loop-index-preserved
 loop-index-preserved c =
-    put_more leg_names (legs_of_flight c.args.self.now.loads (state_now c.args.core.now)) 0 c.loop-index.index c.args.flights.now c.flight.result.now c.args.sheet.now c.loop-index.sheet c.put_flight.new.sheet
-    c.loop-index.invariant (there c.args.flights.now c.loop-index.index c.flight.result.now c.flight.ensures.value) (here c.args.flights.now c.loop-index.index c.flight.result.now c.flight.ensures.value)
-    (subst (λ (k : ℕ). ArePut leg_names (legs_of_flight c.args.self.now.loads (state_now c.args.core.now) k c.flight.result.now) c.loop-index.sheet c.put_flight.new.sheet) (sym (zero-add c.loop-index.index)) c.in_ok-put_flight.ensures)
+    put_more leg_names (legs_of_flight c.args.self.now.loads (state_now c.args.core.now)) 0 c.loop-index.index c.args.flights.now c.flight.result c.args.sheet.now c.loop-index.sheet c.put_flight.new.sheet
+    c.loop-index.invariant (there c.args.flights.now c.loop-index.index c.flight.result c.flight.ensures.value) (here c.args.flights.now c.loop-index.index c.flight.result c.flight.ensures.value)
+    (subst (λ (k : ℕ). ArePut leg_names (legs_of_flight c.args.self.now.loads (state_now c.args.core.now) k c.flight.result) c.loop-index.sheet c.put_flight.new.sheet) (sym (zero-add c.loop-index.index)) c.in_ok-put_flight.ensures)
 
 pub returns : goal.returns
 returns c =
