@@ -28,3 +28,4 @@ pub mod Replayed
 pub mod GoneOn
 pub mod Sessions
 mod KnownAgain
+pub mod SideBySide

@@ -20,3 +20,4 @@ pub mod SealedRun
 pub mod Starting
 pub mod Taken
 pub mod TextImprints
+pub mod SideBySide

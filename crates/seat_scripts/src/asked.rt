@@ -126,14 +126,15 @@ fn asked_once<R: Threads + Sync, I: NotedRead>(
         Ok(start) => start,
         Err(fault) => return Err(fault),
     };
-    match asked_from(alloc, start, again, scripts, changes, today) {
+    match asked_from(rt, alloc, start, again, scripts, changes, today) {
         Ok(asked) => Ok(asked),
         Err(fault) => Err(fault),
     }
 }
 
 /// What scripts and changes ask of a run that is started, where the seal has nothing against it.
-fn asked_from<I: NotedRead>(
+fn asked_from<R: Threads, I: NotedRead>(
+    rt: &R,
     alloc: Global,
     start: Start,
     again: bool,
@@ -148,7 +149,7 @@ fn asked_from<I: NotedRead>(
     ensures none { IfErr result (IsNotAskedFrom start again today (map I.remaining scripts.old) (I.remaining changes.old)
         (HasFailedAmong today (map I.remaining scripts.old) I.failure_count scripts.old scripts.new) (HasFailed I.failure_count changes.old changes.new)) }
 {
-    let read = match texts_of(alloc, &start, scripts, changes, today) {
+    let read = match texts_of(rt, alloc, &start, scripts, changes, today) {
         Ok(read) => read,
         Err(fault) => return Err(fault),
     };
@@ -178,7 +179,8 @@ pub(crate) struct Texts {
 }
 
 /// Reads the scripts, and then the changes.
-fn texts_of<I: NotedRead>(
+fn texts_of<R: Threads, I: NotedRead>(
+    rt: &R,
     alloc: Global,
     start: &Start,
     scripts: &mut [I],
@@ -192,7 +194,7 @@ fn texts_of<I: NotedRead>(
     ensures none { IfErr result (AreNoTexts start.now today (map I.remaining scripts.old) (I.remaining changes.old)
         (HasFailedAmong today (map I.remaining scripts.old) I.failure_count scripts.old scripts.new) (HasFailed I.failure_count changes.old changes.new)) }
 {
-    let read = match read_scripts(alloc, scripts, today, None, &start.known) {
+    let read = match read_scripts(rt, alloc, scripts, today, None, &start.known) {
         Ok(read) => read,
         Err(fault) => return Err(fault),
     };

@@ -4,8 +4,8 @@ ghost use Rattle.std.specs.List.{AllByRecursion};
 ghost use Rattle.airline_base.specs.Days.{IsCenturyDay};
 ghost use Rattle.seat_desk.specs.Desk.{HasFailed, IsOfInput};
 ghost use Rattle.seat_scripts.specs.Repeated.{AreFoundOn, IsBookedOf, IsOneBooked};
-ghost use Rattle.seat_scripts.specs.TextImprints.{AreImprints, AreTakenOn, IsImprintOf};
-ghost use Rattle.seat_seal.specs.Booked.{scripts_booked};
+ghost use Rattle.seat_scripts.specs.TextImprints.{AreImprints, AreTakenOn, IsImprintOf, text_imprint};
+ghost use Rattle.seat_seal.specs.Booked.{is_booked, scripts_booked};
 ghost use Rattle.seat_seal.specs.Known.{runs_known};
 ghost use Rattle.seat_replies.specs.Requests.{AreReadOn, AreRight, AreScripts, HasFailedAmong, IsOfScript, IsRefusedAmong, IsRefusedScript, IsScriptOf, IsTooLargeAmong, most_script_bytes, script_refusal};
 
@@ -16,6 +16,7 @@ use airline_base::{Day, Items, NotedRead};
 use seat_desk::{DeskFault, read_input};
 use seat_seal::{Imprint, Sealed};
 use std::alloc::{AllocError, Global};
+use std::thread::{Threads, join};
 
 /// 16 MiB, the most bytes of a script.
 const MOST_SCRIPT_BYTES: u64 = 16_777_216;
@@ -71,7 +72,8 @@ struct ReadScript {
 /// The requests of each script, of at most eight, beside what the known runs booked that began ahead of so many lines, or all of them.
 /// Each is read and checked before the next is read.
 #[tactic(auto, using(crate::proofs::Reading::read_count))]
-pub fn read_scripts<C: NotedRead>(
+pub fn read_scripts<X: Threads, C: NotedRead>(
+    rt: &X,
     alloc: Global,
     scripts: &mut [C],
     today: Day,
@@ -93,13 +95,14 @@ pub fn read_scripts<C: NotedRead>(
 {
     let booked = scripts_known(alloc, lines, known)?;
     let mut read = ReadScripts::none(alloc);
-    read_from(alloc, scripts, 1, today, booked.as_slice(), &mut read)?;
+    read_from(rt, alloc, scripts, 1, today, booked.as_slice(), &mut read)?;
     Ok(read)
 }
 
 /// Reads these scripts, of which the first has this number.
 #[tactic(auto, using(crate::proofs::Reading::read_none, crate::proofs::Reading::read_more, crate::proofs::Reading::taken_none, crate::proofs::Reading::taken_more, crate::proofs::Reading::found_none, crate::proofs::Reading::found_more, crate::proofs::Reading::readable))]
-fn read_from<C: NotedRead>(
+fn read_from<X: Threads, C: NotedRead>(
+    rt: &X,
     alloc: Global,
     scripts: &mut [C],
     session: u8,
@@ -121,15 +124,16 @@ fn read_from<C: NotedRead>(
     let Some((script, later)) = scripts.split_first_mut() else {
         return Ok(());
     };
-    let one = read_one(alloc, script, session, today, booked)?;
+    let one = read_one(rt, alloc, script, session, today, booked)?;
     if read.add(one).is_err() {
         return Err(DeskFault::Memory);
     }
-    read_from(alloc, later, session + 1, today, booked, read)
+    read_from(rt, alloc, later, session + 1, today, booked, read)
 }
 
 /// The script of a session.
-fn read_one<C: NotedRead>(
+fn read_one<X: Threads, C: NotedRead>(
+    rt: &X,
     alloc: Global,
     script: &mut C,
     session: u8,
@@ -149,13 +153,50 @@ fn read_one<C: NotedRead>(
     ensures device { IfErr result (λ f. f ≡ DeskFault.Device → HasFailed C.failure_count script.old script.new) }
 {
     let bytes = read_input(alloc, script, MOST_SCRIPT_BYTES)?;
-    let requests = requests_of(alloc, &bytes, session, today)?;
-    let (imprint, is_booked) = text_beside(&bytes, booked);
-    Ok(ReadScript {
-        requests,
-        imprint,
-        is_booked,
-    })
+    let read = read_beside(rt, alloc, &bytes, session, today, booked)?;
+    Ok(read)
+}
+
+/// Takes the imprint of these bytes on a thread of its own, where one can be had, and beside that reads them as a script.
+fn read_beside<X: Threads>(
+    rt: &X,
+    alloc: Global,
+    bytes: &[u8],
+    session: u8,
+    today: Day,
+    booked: &[Imprint],
+) -> Result<ReadScript, DeskFault>
+    requires today { IsCenturyDay today }
+    requires size { length bytes.now ≤ most_script_bytes }
+    ensures ok { IfOk result (λ read. IsScriptOf today read.requests bytes.now) }
+    ensures imprint { IfOk result (λ read. read.imprint ≡ text_imprint bytes.now) }
+    ensures booked { IfOk result (λ read. read.is_booked ≡ is_booked booked.now bytes.now) }
+    ensures right { IfOk result (λ read. AreRight read.requests) }
+    ensures fault { IfErr result (λ f. f ≢ DeskFault.Memory → IsRefusedScript today session f bytes.now) }
+    ensures script { IfErr result (λ f. f ≢ DeskFault.Memory → IsOfScript f) }
+    ensures kind { IfErr result (λ f. (f ≢ DeskFault.Device) × (f ≢ DeskFault.TooLarge)) }
+{
+    let there = || -> (Option<Imprint>, bool)
+        ensures imprint { result.0 ≡ text_imprint bytes.entry.now }
+        ensures booked { result.1 ≡ is_booked booked.entry.now bytes.entry.now }
+    { text_beside(bytes, booked) };
+    let here = || -> Result<Requests, DeskFault>
+        requires { IsCenturyDay today × (length bytes.now ≤ most_script_bytes) }
+        ensures ok { IfOk result (λ requests. IsScriptOf today requests bytes.entry.now) }
+        ensures right { IfOk result AreRight }
+        ensures fault { IfErr result (λ f. f ≢ DeskFault.Memory → IsRefusedScript today session f bytes.entry.now) }
+        ensures script { IfErr result (λ f. f ≢ DeskFault.Memory → IsOfScript f) }
+        ensures kind { IfErr result (λ f. (f ≢ DeskFault.Device) × (f ≢ DeskFault.TooLarge)) }
+    { requests_of(alloc, bytes, session, today) };
+    let ((imprint, is_booked), requests) = join(rt, there, here);
+    match requests {
+        Ok(requests) => Ok(ReadScript {
+            requests,
+            imprint,
+            is_booked,
+        }),
+        Err(fault) => Err(fault),
+    }
 }
 
 /// Reads these bytes as a script.

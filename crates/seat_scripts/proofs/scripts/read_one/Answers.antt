@@ -5,11 +5,11 @@ use Rattle.seat_scripts.proofs.scripts.read_one.Goals as goal
 
 pub returns-clause-ok : goal.returns-clause-ok
 returns-clause-ok g c =
-    whole_text (IsScriptOf c.args.today c.in_ok-requests.requests) (g.C.Read.remaining c.args.script.now) c.in_ok-bytes.bytes.items
-    c.deref.result.now c.in_ok-bytes.ensures.whole c.deref.ensures.value c.in_ok-requests.ensures.ok
+    whole_text (IsScriptOf c.args.today c.in_ok-read.read.requests) (g.C.Read.remaining c.args.script.now) c.in_ok-bytes.bytes.items
+    c.deref.result.now c.in_ok-bytes.ensures.whole c.deref.ensures.value c.in_ok-read.ensures.ok
 
 pub returns-clause-right : goal.returns-clause-right
-returns-clause-right g c = c.in_ok-requests.ensures.right
+returns-clause-right g c = c.in_ok-read.ensures.right
 
 pub returns-in_err-bytes-clause-fault : goal.returns-in_err-bytes-clause-fault
 returns-in_err-bytes-clause-fault g c =
@@ -31,23 +31,23 @@ returns-in_err-bytes-clause-device g c =
     let p = err_from_is_err_and c.from_residual.result c.from_residual.ensures.1 in
     rw (p.1, p.2) (λ device. c.in_err-bytes.ensures.device device)
 
-pub returns-in_err-requests-clause-fault : goal.returns-in_err-requests-clause-fault
-returns-in_err-requests-clause-fault g c =
-    let p = err_from_is_err_and c.from_residual-in_err-requests.result c.from_residual-in_err-requests.ensures.1 in
+pub returns-in_err-read-clause-fault : goal.returns-in_err-read-clause-fault
+returns-in_err-read-clause-fault g c =
+    let p = err_from_is_err_and c.from_residual-in_err-read.result c.from_residual-in_err-read.ensures.1 in
     rw (p.1, p.2) (λ input. refused_text (IsRefusedScript c.args.today c.args.session) (g.C.Read.remaining c.args.script.now)
-    c.in_ok-bytes.bytes.items c.deref.result.now _ c.in_ok-bytes.ensures.whole c.deref.ensures.value c.in_err-requests.ensures.fault input)
+    c.in_ok-bytes.bytes.items c.deref.result.now _ c.in_ok-bytes.ensures.whole c.deref.ensures.value c.in_err-read.ensures.fault input)
 
-pub returns-in_err-requests-clause-script : goal.returns-in_err-requests-clause-script
-returns-in_err-requests-clause-script g c =
-    let p = err_from_is_err_and c.from_residual-in_err-requests.result c.from_residual-in_err-requests.ensures.1 in
-    rw (p.1, p.2) (λ input. c.in_err-requests.ensures.script (λ is. memory_no_input _ is input))
+pub returns-in_err-read-clause-script : goal.returns-in_err-read-clause-script
+returns-in_err-read-clause-script g c =
+    let p = err_from_is_err_and c.from_residual-in_err-read.result c.from_residual-in_err-read.ensures.1 in
+    rw (p.1, p.2) (λ input. c.in_err-read.ensures.script (λ is. memory_no_input _ is input))
 
-pub returns-in_err-requests-clause-large : goal.returns-in_err-requests-clause-large
-returns-in_err-requests-clause-large g c =
-    let p = err_from_is_err_and c.from_residual-in_err-requests.result c.from_residual-in_err-requests.ensures.1 in
-    rw (p.1, p.2) (λ large. absurd (c.in_err-requests.ensures.kind.1 large))
+pub returns-in_err-read-clause-large : goal.returns-in_err-read-clause-large
+returns-in_err-read-clause-large g c =
+    let p = err_from_is_err_and c.from_residual-in_err-read.result c.from_residual-in_err-read.ensures.1 in
+    rw (p.1, p.2) (λ large. absurd (c.in_err-read.ensures.kind.1 large))
 
-pub returns-in_err-requests-clause-device : goal.returns-in_err-requests-clause-device
-returns-in_err-requests-clause-device g c =
-    let p = err_from_is_err_and c.from_residual-in_err-requests.result c.from_residual-in_err-requests.ensures.1 in
-    rw (p.1, p.2) (λ device. absurd (c.in_err-requests.ensures.kind.0 device))
+pub returns-in_err-read-clause-device : goal.returns-in_err-read-clause-device
+returns-in_err-read-clause-device g c =
+    let p = err_from_is_err_and c.from_residual-in_err-read.result c.from_residual-in_err-read.ensures.1 in
+    rw (p.1, p.2) (λ device. absurd (c.in_err-read.ensures.kind.0 device))
