@@ -5,6 +5,7 @@ ghost use Rattle.seat_replies.specs.Requests.{commands_of};
 ghost use Rattle.seat_scripts.specs.SideBySide.{AreFound};
 
 use crate::past::highest;
+use crate::scripts::is_alone;
 use airimp_lines::{Request, Requests};
 use seat_core::Core;
 use seat_journal::CommandList;
@@ -55,7 +56,7 @@ fn command_lists<X: Threads + Sync>(
     lists_beside(rt, alloc, &served, scripts)
 }
 
-/// The commands of each script, each found on a thread of its own, where one can be had.
+/// The commands of each script, those of several found on threads of their own, where there are processors for it and these can be had.
 fn lists_beside<X: Threads + Sync>(
     rt: &X,
     alloc: Global,
@@ -64,8 +65,26 @@ fn lists_beside<X: Threads + Sync>(
 ) -> Result<Vec<CommandList>, AllocError>
     ensures { IfOk result (λ lists. lists.items ≡ map (commands_of served.now) scripts.now) }
 {
+    if scripts.len() < 2 || is_alone(rt) {
+        return lists_in_turn(alloc, served, scripts);
+    }
     let found = found_beside(rt, alloc, served, scripts)?;
     all_of(alloc, found)
+}
+
+/// The commands of each script, one after the other.
+fn lists_in_turn(
+    alloc: Global,
+    served: &Served<'_>,
+    scripts: &[Requests],
+) -> Result<Vec<CommandList>, AllocError>
+    ensures { IfOk result (λ lists. lists.items ≡ map (commands_of served.now) scripts.now) }
+{
+    let mut lists = Vec::with_capacity(alloc, scripts.len())?;
+    for script in scripts {
+        lists.push(commands(alloc, served, script.as_slice())?)?;
+    }
+    Ok(lists)
 }
 
 /// What was found of each script, in the order of the scripts.

@@ -16,10 +16,13 @@ use airline_base::{Day, Items, NotedRead};
 use seat_desk::{DeskFault, read_input};
 use seat_seal::{Imprint, Sealed};
 use std::alloc::{AllocError, Global};
-use std::thread::{Threads, join};
+use std::thread::{Threads, available_parallelism, join};
 
 /// 16 MiB, the most bytes of a script.
 const MOST_SCRIPT_BYTES: u64 = 16_777_216;
+
+/// So many bytes take longer to read than a thread to begin.
+const MANY_BYTES: usize = 65_536;
 
 /// The requests of each script, in the order of the scripts.
 pub type Scripts = Items<Requests>;
@@ -153,8 +156,72 @@ fn read_one<X: Threads, C: NotedRead>(
     ensures device { IfErr result (λ f. f ≡ DeskFault.Device → HasFailed C.failure_count script.old script.new) }
 {
     let bytes = read_input(alloc, script, MOST_SCRIPT_BYTES)?;
-    let read = read_beside(rt, alloc, &bytes, session, today, booked)?;
+    let read = read_bytes(rt, alloc, &bytes, session, today, booked)?;
     Ok(read)
+}
+
+/// Reads these bytes as a script and takes their imprint: of many bytes side by side, where there are processors for it.
+fn read_bytes<X: Threads>(
+    rt: &X,
+    alloc: Global,
+    bytes: &[u8],
+    session: u8,
+    today: Day,
+    booked: &[Imprint],
+) -> Result<ReadScript, DeskFault>
+    requires today { IsCenturyDay today }
+    requires size { length bytes.now ≤ most_script_bytes }
+    ensures ok { IfOk result (λ read. IsScriptOf today read.requests bytes.now) }
+    ensures imprint { IfOk result (λ read. read.imprint ≡ text_imprint bytes.now) }
+    ensures booked { IfOk result (λ read. read.is_booked ≡ is_booked booked.now bytes.now) }
+    ensures right { IfOk result (λ read. AreRight read.requests) }
+    ensures fault { IfErr result (λ f. f ≢ DeskFault.Memory → IsRefusedScript today session f bytes.now) }
+    ensures script { IfErr result (λ f. f ≢ DeskFault.Memory → IsOfScript f) }
+    ensures kind { IfErr result (λ f. (f ≢ DeskFault.Device) × (f ≢ DeskFault.TooLarge)) }
+{
+    if bytes.len() < MANY_BYTES || is_alone(rt) {
+        return read_in_turn(alloc, bytes, session, today, booked);
+    }
+    read_beside(rt, alloc, bytes, session, today, booked)
+}
+
+/// Whether there is one processor, or how many is not known.
+pub(crate) fn is_alone<X: Threads>(rt: &X) -> bool {
+    match available_parallelism(rt) {
+        Ok(count) => count.get() < 2,
+        Err(_) => true,
+    }
+}
+
+/// Reads these bytes as a script, and then takes their imprint.
+fn read_in_turn(
+    alloc: Global,
+    bytes: &[u8],
+    session: u8,
+    today: Day,
+    booked: &[Imprint],
+) -> Result<ReadScript, DeskFault>
+    requires today { IsCenturyDay today }
+    requires size { length bytes.now ≤ most_script_bytes }
+    ensures ok { IfOk result (λ read. IsScriptOf today read.requests bytes.now) }
+    ensures imprint { IfOk result (λ read. read.imprint ≡ text_imprint bytes.now) }
+    ensures booked { IfOk result (λ read. read.is_booked ≡ is_booked booked.now bytes.now) }
+    ensures right { IfOk result (λ read. AreRight read.requests) }
+    ensures fault { IfErr result (λ f. f ≢ DeskFault.Memory → IsRefusedScript today session f bytes.now) }
+    ensures script { IfErr result (λ f. f ≢ DeskFault.Memory → IsOfScript f) }
+    ensures kind { IfErr result (λ f. (f ≢ DeskFault.Device) × (f ≢ DeskFault.TooLarge)) }
+{
+    match requests_of(alloc, bytes, session, today) {
+        Ok(requests) => {
+            let (imprint, is_booked) = text_beside(bytes, booked);
+            Ok(ReadScript {
+                requests,
+                imprint,
+                is_booked,
+            })
+        }
+        Err(fault) => Err(fault),
+    }
 }
 
 /// Takes the imprint of these bytes on a thread of its own, where one can be had, and beside that reads them as a script.
