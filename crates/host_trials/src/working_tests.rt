@@ -58,10 +58,10 @@ fn lists_of(alloc: Global, grid: &Grid, command: &Command) -> Result<Vec<Command
 
 /// The number of the last line that a session was given; 0 where it has none.
 fn number_of<K: Hosting>(session: &Session<K>) -> u32 {
-    if session.receipts().is_empty() {
-        return 0;
+    match session.numbers().last() {
+        Some(number) => *number,
+        None => 0,
     }
-    session.last().entry().number
 }
 
 /// Opens a host and runs its sessions: the numbers of the last lines of sessions 1 and 2.

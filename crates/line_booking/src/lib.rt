@@ -4,6 +4,8 @@
 
 mod booking;
 mod receipt;
+mod receipts;
 
 pub use booking::{BookFault, add_line};
 pub use receipt::Receipt;
+pub use receipts::Receipts;

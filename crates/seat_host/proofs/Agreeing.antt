@@ -1,6 +1,6 @@
 -- The lines by session agree with the journal.
 use Rattle.std.proofs.Common.{◌≡◌, ◌≢◌, ℕ, zero, suc, ◌+◌, ◌<◌, ◌≤◌, ◌==◌, Bool, true, false, cond, Some, List, [], ◌∷◌, ◌++◌, length, refl, ap, sym, subst, ◌∙◌, arith, ⊎_elim, append_assoc, length-append, eq-eqb, ne_eqb}
-use Rattle.std.specs.Prelude.{slice_get}
+use Rattle.std.specs.Prelude.{map, slice_get}
 use Rattle.std.specs.List.{sum_by, slice_index_or, AllByRecursion}
 use Rattle.std.proofs.lemmas.List.Sums.{sum_by-cons, sum_by_push}
 use Rattle.std.proofs.lemmas.Bool.{cases_lt}
@@ -15,7 +15,10 @@ use Rattle.seat_rules.specs.Journal.{IsNext, IsLegal}
 use Rattle.seat_rules.specs.Histories.{of_session, by_session, OnlyFirst}
 use Rattle.seat_rules.specs.Headline.{Headline}
 use Rattle.seat_rules.specs.Agreement.{nth, receipts_of, receipt_of, receipts_in, totals_in, HasReceipt, HasLine, Agrees}
+use Rattle.seat_host.specs.Outcome.{lines_at, AreLines}
+use Rattle.seat_host.specs.Sessions.{numbers_of}
 use Rattle.seat_host.proofs.Booking.{dec_nat}
+use Rattle.seat_host.proofs.Numbers.{all_again, all_lines, each_numbered, AreNumbered}
 use Rattle.seat_rules.proofs.Own.{own_append, own_one, calls_own}
 
 -- ---- an entry and those round it
@@ -284,3 +287,24 @@ headline_of grid cap n journal given lists totals legal capped within only is ar
       totals_are = are;
       sums = lists_sum grid n journal lists totals legal only is are;
     })
+
+-- ---- each line has its number
+
+numbered_from : (grid : Ladders) (journal front rest : List Entry) → IsLegal grid journal → journal ≡ front ++ rest
+    → AreNumbered journal rest
+numbered_from grid journal front [] legal is = tt
+numbered_from grid journal front (e ∷ rest) legal is = (
+  ap (nth journal) (number_is grid front e (legal_at grid journal front rest e legal is)) ∙ ap (λ (l : List Entry). slice_get l (length front)) is ∙ here front rest e,
+  numbered_from grid journal (front ++ e ∷ []) rest legal (is ∙ sym (append_assoc front (e ∷ []) rest)),
+)
+
+-- the numbers of each session's lines are those of lines, and give them again
+pub lists_there : (grid : Ladders) (n : ℕ) (journal : List Entry) (numbers : List (List ℕ)) → IsLegal grid journal
+    → numbers ≡ map numbers_of (by_session n journal) → AllByRecursion (AreLines journal) numbers
+lists_there grid n journal numbers legal is =
+    subst (AllByRecursion (AreLines journal)) (sym is) (all_lines journal (by_session n journal) (each_numbered n journal (numbered_from grid journal [] journal legal refl)))
+
+pub lists_again : (grid : Ladders) (n : ℕ) (journal : List Entry) (numbers : List (List ℕ)) → IsLegal grid journal
+    → numbers ≡ map numbers_of (by_session n journal) → map (lines_at journal) numbers ≡ by_session n journal
+lists_again grid n journal numbers legal is =
+    ap (map (lines_at journal)) is ∙ all_again journal (by_session n journal) (each_numbered n journal (numbered_from grid journal [] journal legal refl))

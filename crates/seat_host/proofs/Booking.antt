@@ -1,5 +1,5 @@
 -- One booking, over plain lists.
-use Rattle.std.proofs.Common.{◌≡◌, ◌≢◌, ℕ, zero, suc, ◌+◌, ◌<◌, ◌≤◌, ◌⊎◌, List, [], ◌∷◌, ◌++◌, length, refl, ap, sym, subst, ◌∙◌, arith, inl, inr, ⊎_elim, length-append}
+use Rattle.std.proofs.Common.{◌≡◌, ◌≢◌, ℕ, zero, suc, ◌+◌, ◌<◌, ◌≤◌, ◌⊎◌, List, [], ◌∷◌, ◌++◌, length, take, refl, ap, sym, subst, ◌∙◌, arith, inl, inr, ⊎_elim, length-append}
 use Rattle.std.specs.Prelude.{slice_index, slice_set}
 use Rattle.std.proofs.lemmas.List.{append-nil}
 use mathlib.Core.Logic.{dite}
@@ -16,11 +16,13 @@ use Rattle.seat_rules.proofs.History.Legal.{legal_push}
 use Rattle.seat_rules.specs.Histories.{of_session}
 use Rattle.seat_display.specs.Faces.{Published}
 use Rattle.line_booking.specs.Booking.{AddsLine, Shows}
+use Rattle.line_booking.specs.Receipts.{Kept}
 use Rattle.seat_host.specs.Lawful.{IsTied, LawfulUnderLock}
 use Rattle.seat_host.specs.Ledgers.{Staked, counted}
-use Rattle.seat_host.specs.Sessions.{Stands, Booked, Seat}
+use Rattle.seat_host.specs.Sessions.{Stands, Booked, KeepsLines, Seat, seat_of}
 use Rattle.seat_host.specs.Settling.{IsConfirmed}
 use Rattle.seat_rules.proofs.Own.{own_append, own_length, own_one, own_other, calls_own}
+use Rattle.seat_host.proofs.Keeping.{given_all, keeps_more}
 
 -- a front that the old journal begins with becomes the new journal
 pub front_is : (front front' journal : List Entry) (e : Entry) → Begins front journal
@@ -83,47 +85,47 @@ tied_push grid cap n line_counts now journal e t next room le is =
       only = record { none = λ s more. there s (λ q. absurd (omega (arith, q, le, more))) ∙ t.only.none s more };
     }
 
-abbrev pub with_line : Seat → List Entry → List Entry → Seat
-with_line s kept front = record { id = s.id; receipts = kept; front = front }
-
 -- what a booking leaves a session with
-pub record AfterBooking (grid : Ladders) (n : ℕ) (journal : List Entry) (work : Work) (s : Seat) (kept front : List Entry) : Type 0 where
+pub record AfterBooking (grid : Ladders) (n : ℕ) (journal : List Entry) (work : Work) (s : Seat) (receipts kept : Kept) (front : List Entry) : Type 0 where
   pub is : front ≡ journal
-  pub len : length kept ≡ length s.receipts + 1
-  pub booked : Booked grid work s (with_line s kept front)
-  pub stands : Stands grid n (with_line s kept front)
+  pub len : length kept.numbers ≡ length receipts.numbers + 1
+  pub booked : Booked grid work s (seat_of s.id (length kept.numbers) front)
+  pub stands : Stands grid n (seat_of s.id (length kept.numbers) front)
+  pub keeps : KeepsLines kept (take (length kept.numbers) (of_session s.id front))
 
 pub booking : (grid : Ladders) (cap n : ℕ) (core now : Inventory) (line_counts : List ℕ) (s : Seat) (work : Work)
-    (kept front : List Entry)
+    (receipts kept : Kept) (front : List Entry)
     → core.grid ≡ grid → now.grid ≡ core.grid → IsTied grid cap n line_counts core.journal → Stands grid n s
-    → IsConfirmed n core.journal s → AddsLine core now s.id work s.receipts kept
+    → KeepsLines receipts s.receipts → IsConfirmed n core.journal s → AddsLine core now s.id work receipts kept
     → Begins now.journal front → (front ≡ s.front) ⊎ (front ≡ now.journal)
-    → AfterBooking grid n now.journal work s kept front
-booking grid cap n core now line_counts s work kept front over same t stands c a more longer =
+    → AfterBooking grid n now.journal work s receipts kept front
+booking grid cap n core now line_counts s work receipts kept front over same t stands keeps c a more longer =
     let journal = core.journal in
     let e = a.line in
     let next : IsNext grid journal e = subst (λ (h : Ladders). IsNext h journal e) over a.next in
     let session : e.session ≡ s.id = ap (λ (x : Entry). x.session) a.is in
     let more : Begins (journal ++ e ∷ []) front = subst (λ (l : List Entry). Begins l front) a.journal_is more in
     let is : front ≡ journal ++ e ∷ [] = front_is s.front front journal e c.front more (⊎_elim (λ b. inl b) (λ b. inr (b ∙ a.journal_is)) longer) in
-    let all : of_session s.id front ≡ kept =
-    ap (of_session s.id) is ∙ own_append s.id journal (e ∷ []) ∙ (λ i. sym c.lines i ++ own_one s.id e session i) ∙ sym a.kept_is in
+    let own : of_session s.id front ≡ s.receipts ++ e ∷ [] =
+    ap (of_session s.id) is ∙ own_append s.id journal (e ∷ []) ∙ (λ i. sym c.lines i ++ own_one s.id e session i) in
+    let keeps_all : KeepsLines kept (s.receipts ++ e ∷ []) = keeps_more receipts kept s.receipts e keeps a.kept_is in
+    let given : take (length kept.numbers) (of_session s.id front) ≡ s.receipts ++ e ∷ [] = ap (take (length kept.numbers)) own ∙ given_all kept (s.receipts ++ e ∷ []) keeps_all in
+    let all : of_session s.id front ≡ take (length kept.numbers) (of_session s.id front) = own ∙ sym given in
     let legal : IsLegal grid front = subst (IsLegal grid) (sym is) (legal_push grid journal e t.legal next) in
     let within : HoldsWithinLimits grid front =
     subst (λ (x : Ladders × List Entry). HoldsWithinLimits x.0 x.1) (λ i. ((same ∙ over) i, (a.journal_is ∙ sym is) i)) a.within in
     let before : Begins s.front front = subst (λ (l : List Entry). Begins s.front l) (sym is) (begins_trans s.front journal (journal ++ e ∷ []) c.front (begins_longer journal (e ∷ []))) in
-    let len : length kept ≡ length s.receipts + 1 = omega (arith, ap length a.kept_is, length-append s.receipts (e ∷ [])) in
     let few : length s.receipts ≤ 999999 = omega (arith, ap length c.lines, own_length s.id journal, t.capped, t.small) in
     record {
       is = is ∙ sym a.journal_is;
-      len = len;
+      len = omega (arith, ap length a.kept_is.numbers, length-append receipts.numbers (e.number ∷ []));
       booked = record {
         line = e;
         session = session;
         call = ap (λ (x : Entry). x.call) a.is ∙ omega (arith, calls_own journal s.id, ap length c.lines);
         work_is = ap (λ (x : Entry). x.work) a.is;
         id = refl;
-        receipts = a.kept_is;
+        receipts = given;
         before = before;
         past = journal;
         last = is;
@@ -131,27 +133,34 @@ booking grid cap n core now line_counts s work kept front over same t stands c a
         legal = legal;
         within = within;
       };
-      stands = record { number = stands.number; legal = legal; own = subst (λ (l : List Entry). Begins kept l) (sym all) (begins_itself kept); few = omega (arith, few, len) };
+      stands = record {
+        number = stands.number;
+        legal = legal;
+        own = subst (λ (l : List Entry). Begins (take (length kept.numbers) (of_session s.id front)) l) (sym all) (begins_itself (take (length kept.numbers) (of_session s.id front)));
+        few = omega (arith, few, ap length given, length-append s.receipts (e ∷ []));
+      };
+      keeps = subst (KeepsLines kept) (sym given) keeps_all;
     }
 
 -- the same of what a call finds and is told
 pub after_call : (grid : Ladders) (cap : ℕ) (book : Book) (n : ℕ) (core now : Inventory) (line_counts : List ℕ)
-    (publisher shown : Published) (opened : ℕ) (s old : Seat) (work : Work) (kept front told : List Entry)
-    → LawfulUnderLock grid cap book n core line_counts publisher opened → Stands grid n s → s ≡ old
-    → IsConfirmed n publisher.visible old → AddsLine core now s.id work s.receipts kept → now.grid ≡ core.grid
+    (publisher shown : Published) (opened : ℕ) (s old : Seat) (work : Work)
+    (receipts kept : Kept) (front told : List Entry)
+    → LawfulUnderLock grid cap book n core line_counts publisher opened → Stands grid n s → KeepsLines receipts s.receipts
+    → s ≡ old → IsConfirmed n publisher.visible old → AddsLine core now s.id work receipts kept → now.grid ≡ core.grid
     → Shows now shown
     → told ≡ shown.visible → Begins told front → (front ≡ s.front) ⊎ (front ≡ told)
-    → AfterBooking grid n now.journal work s kept front
-after_call grid cap book n core now line_counts publisher shown opened s old work kept front told l stands is c a same shows tells more longer =
+    → AfterBooking grid n now.journal work s receipts kept front
+after_call grid cap book n core now line_counts publisher shown opened s old work receipts kept front told l stands keeps is c a same shows tells more longer =
     let all : told ≡ now.journal = tells ∙ shows.visible in
-    booking grid cap n core now line_counts s work kept front l.grid_is same l.tied stands
+    booking grid cap n core now line_counts s work receipts kept front l.grid_is same l.tied stands keeps
     (subst (λ (x : List Entry × Seat). IsConfirmed n x.0 x.1) (λ i. (l.shown.visible i, sym is i)) c) a
     (subst (λ (x : List Entry). Begins x front) all more) (⊎_elim (λ b. inl b) (λ b. inr (b ∙ all)) longer)
 
 -- what holds under the lock holds with one line more
 pub lawful_push : (grid : Ladders) (cap : ℕ) (book : Book) (n : ℕ) (core now : Inventory)
     (line_counts audited more : List ℕ) (publisher shown : Published) (opened session many : ℕ) (stake : Staked)
-    (work : Work) (receipts kept : List Entry)
+    (work : Work) (receipts kept : Kept)
     → LawfulUnderLock grid cap book n core line_counts publisher opened → AddsLine core now session work receipts kept
     → now.grid ≡ core.grid → now.cap ≡ core.cap → shown.book ≡ publisher.book → Shows now shown
     → session ≤ n → audited ≡ line_counts → stake ≡ counted session many

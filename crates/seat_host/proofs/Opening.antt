@@ -17,7 +17,9 @@ use Rattle.seat_rules.specs.Histories.{of_session, OnlyFirst}
 use Rattle.seat_host.specs.Lawful.{IsTied, CountsFirst}
 use Rattle.seat_host.specs.Ledgers.{Staked, counted}
 use Rattle.seat_host.specs.Seating.{Seating}
-use Rattle.seat_host.specs.Sessions.{Seat, Stands, seated, seated_sessions}
+use Rattle.seat_host.specs.Sessions.{KeepsLines, Seat, Stands, seat_of, seated, seated_sessions}
+use Rattle.line_booking.specs.Receipts.{Kept, KeepsLine}
+use Rattle.seat_host.proofs.Keeping.{given_all, keeps_more}
 use Rattle.seat_rules.proofs.Own.{own_append, own_length, own_one, own_other}
 use Rattle.seat_host.proofs.Booking.{at_set_here, at_set_else, set_length, dec_nat, no_calls}
 
@@ -145,9 +147,9 @@ stands_seated grid n id receipts past le few legal short own = record {
   few = omega (arith, ap length own, own_length id past, short);
 }
 
-pub seated_is : (id : ℕ) (receipts past : List Entry) → receipts ≡ of_session id past
-    → (let s : Seat = record { id = id; receipts = receipts; front = past } in s ≡ seated id past)
-seated_is id receipts past own = λ i. record { id = id; receipts = own i; front = past }
+pub seated_is : (id : ℕ) (receipts : Kept) (past : List Entry) → KeepsLines receipts (of_session id past)
+    → seat_of id (length receipts.numbers) past ≡ seated id past
+seated_is id receipts past own = λ i. record { id = id; receipts = given_all receipts (of_session id past) own i; front = past }
 
 none_if_short : (xs : List Entry) → length xs ≤ 0 → xs ≡ []
 none_if_short [] le = refl
@@ -187,13 +189,19 @@ pub pending_next : (pending now lines : List Entry) (i : ℕ) (e shown : Entry) 
 pending_next pending now lines i e shown so_far lt is copied more = more ∙ (λ k. so_far k ++ copied k ∷ []) ∙ sym (take_next lines i e lt is)
 
 -- the lines of a session, with one line more
-pub own_next : (s : ℕ) (lines receipts : List Entry) (i : ℕ) (e copy : Entry) → receipts ≡ of_session s (take i lines)
+pub own_next : (s : ℕ) (lines : List Entry) (receipts kept : Kept) (i : ℕ) (e copy : Entry)
+    → KeepsLines receipts (of_session s (take i lines)) → KeepsLine receipts kept copy
     → i < length lines → e ≡ get_or lines i e → copy ≡ e → e.session ≡ s
-    → receipts ++ copy ∷ [] ≡ of_session s (take (i + 1) lines)
-own_next s lines receipts i e copy own lt is copied mine =
-    (λ k. own k ++ copied k ∷ []) ∙ sym (ap (of_session s) (take_next lines i e lt is) ∙ own_append s (take i lines) (e ∷ []) ∙ ap (λ l. of_session s (take i lines) ++ l) (own_one s e mine))
+    → KeepsLines kept (of_session s (take (i + 1) lines))
+own_next s lines receipts kept i e copy own more lt is copied mine =
+    let longer : of_session s (take (i + 1) lines) ≡ of_session s (take i lines) ++ copy ∷ [] =
+    ap (of_session s) (take_next lines i e lt is) ∙ own_append s (take i lines) (e ∷ []) ∙ ap (λ l. of_session s (take i lines) ++ l) (own_one s e mine) ∙ ap (λ (x : Entry). of_session s (take i lines) ++ x ∷ []) (sym copied) in
+    subst (KeepsLines kept) (sym longer) (keeps_more receipts kept (of_session s (take i lines)) copy own more)
 
-pub own_skip : (s : ℕ) (lines receipts : List Entry) (i : ℕ) (e : Entry) → receipts ≡ of_session s (take i lines)
-    → i < length lines → e ≡ get_or lines i e → e.session ≢ s → receipts ≡ of_session s (take (i + 1) lines)
+pub own_skip : (s : ℕ) (lines : List Entry) (receipts : Kept) (i : ℕ) (e : Entry)
+    → KeepsLines receipts (of_session s (take i lines))
+    → i < length lines → e ≡ get_or lines i e → e.session ≢ s → KeepsLines receipts (of_session s (take (i + 1) lines))
 own_skip s lines receipts i e own lt is other =
-    own ∙ sym (ap (of_session s) (take_next lines i e lt is) ∙ own_append s (take i lines) (e ∷ []) ∙ ap (λ l. of_session s (take i lines) ++ l) (own_other s e other) ∙ append-nil (of_session s (take i lines)))
+    let same : of_session s (take (i + 1) lines) ≡ of_session s (take i lines) =
+    ap (of_session s) (take_next lines i e lt is) ∙ own_append s (take i lines) (e ∷ []) ∙ ap (λ l. of_session s (take i lines) ++ l) (own_other s e other) ∙ append-nil (of_session s (take i lines)) in
+    subst (KeepsLines receipts) (sym same) own

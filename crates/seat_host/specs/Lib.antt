@@ -1,6 +1,7 @@
 pub mod Lawful
 pub mod Ledgers
 pub mod Named
+pub mod Outcome
 pub mod Refusing
 pub mod Seating
 pub mod Seen

@@ -1,5 +1,5 @@
 -- What a session knows, and what its calls leave.
-use Rattle.std.specs.Prelude.{◌≡◌, ℕ, zero, suc, ◌+◌, ◌<◌, ◌≤◌, List, [], ◌∷◌, ◌++◌, length}
+use Rattle.std.specs.Prelude.{◌≡◌, ℕ, zero, suc, ◌+◌, ◌-◌, ◌<◌, ◌≤◌, List, [], ◌∷◌, ◌++◌, length, map, slice_get, take}
 use Rattle.seat_nesting.specs.Nesting.{Ladders}
 use Rattle.seat_journal.specs.declared.entry.Work.{Work}
 use Rattle.seat_journal.specs.declared.entry.Entry.{Entry}
@@ -7,12 +7,26 @@ use Rattle.seat_rules.specs.Prefixes.{Begins}
 use Rattle.seat_rules.specs.Inventory.{HoldsWithinLimits}
 use Rattle.seat_rules.specs.Journal.{IsLegal}
 use Rattle.seat_rules.specs.Histories.{of_session}
+use Rattle.line_booking.specs.Receipts.{Kept}
 
 -- what contracts see of a session: its number, which is 0 for the manager, the lines that it was given, and what it has seen
 pub record Seat : Type 0 where
   pub id : ℕ
   pub receipts : List Entry
   pub front : List Entry
+
+-- a session of which so many calls gave a line: its receipts are so many of its lines in what it has seen, from the first on
+abbrev pub seat_of : ℕ → ℕ → List Entry → Seat
+seat_of number calls front = record { id = number; receipts = take calls (of_session number front); front = front }
+
+-- the numbers of lines
+abbrev pub numbers_of : List Entry → List ℕ
+numbers_of lines = map (λ (line : Entry). line.number) lines
+
+-- what is kept of these lines: the number of each, and the last
+pub record KeepsLines (kept : Kept) (lines : List Entry) : Type 0 where
+  pub numbers : kept.numbers ≡ numbers_of lines
+  pub last : kept.last ≡ slice_get lines (length lines - 1)
 
 -- a session that goes on from these lines: it has seen them all, and has its own among them as receipts
 abbrev pub seated : ℕ → List Entry → Seat

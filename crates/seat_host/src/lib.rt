@@ -9,6 +9,7 @@ mod parts;
 mod party;
 mod seating;
 mod session;
+mod settled;
 mod settling;
 mod under_lock;
 
@@ -20,5 +21,6 @@ pub use parts::{HostFault, Parts, showing};
 pub use party::Party;
 pub use seat_display::Shows;
 pub use session::Session;
-pub use settling::{AllReceipts, GatherFault, Receipts, Settled, Unsettled, gather};
+pub use settled::{AllReceipts, LineNumbers, Receipts, Settled};
+pub use settling::{GatherFault, Unsettled, gather};
 pub use under_lock::Refusal;

@@ -6,7 +6,7 @@ ghost use Rattle.seat_rules.specs.Prefixes.{Begins};
 ghost use Rattle.seat_rules.specs.Journal.{FitsChange, FitsSale, IsLegal};
 ghost use Rattle.seat_journal.specs.declared.entry.Work.TheVariants.{Limit, Sale};
 ghost use Rattle.seat_host.specs.Refusing.{IsDue};
-ghost use Rattle.seat_host.specs.Sessions.{Booked, Waits};
+ghost use Rattle.seat_host.specs.Sessions.{Booked, Waits, numbers_of};
 ghost use Rattle.line_booking.specs.declared.booking.BookFault.TheVariants.{JournalFull, Memory as NoMemory};
 
 use crate::host::Host;
@@ -20,7 +20,7 @@ use std::alloc::Global;
 use std::marker::Model;
 use std::sync::Wait;
 
-/// Session 0, which changes limits, and closes and opens classes. It keeps its own lines as receipts, and looks without the lock.
+/// Session 0, which changes limits, and closes and opens classes. It keeps receipts of its own lines, and looks without the lock.
 #[derive(Drop)]
 pub struct Manager<K: Hosting> {
     pub party: Party<K>,
@@ -38,11 +38,11 @@ impl<K: Hosting> Model for Manager<K> {
 }
 
 impl<K: Hosting> Manager<K> {
-    /// The lines of its calls, in order.
-    pub fn receipts(&self) -> &[Receipt]
-        ensures { result.now ≡ self.now.receipts }
+    /// The numbers of the lines of its calls, in order.
+    pub fn numbers(&self) -> &[u32]
+        ensures { result.now ≡ numbers_of self.now.receipts }
     {
-        self.party.receipts()
+        self.party.numbers()
     }
 
     /// The number of its next call.

@@ -6,32 +6,33 @@ ghost use Rattle.seat_rules.specs.Prefixes.{Begins};
 ghost use Rattle.seat_rules.specs.Journal.{IsLegal};
 ghost use Rattle.seat_host.specs.Ledgers.{counted};
 ghost use Rattle.seat_rules.specs.Histories.{of_session};
-ghost use Rattle.seat_host.specs.Sessions.{seated};
+ghost use Rattle.seat_host.specs.Sessions.{KeepsLines, numbers_of, seated};
 
 use crate::ledgers::{Hosting, Stake};
-use line_booking::Receipt;
+use line_booking::{Receipt, Receipts};
 use seat_display::{Sight, Viewer};
 use std::marker::Model;
 
-/// It keeps its own lines as receipts, the one share of its ledger, and a viewer.
+/// It keeps receipts of its own lines, the one share of its ledger, and a viewer.
 #[derive(Drop)]
 pub struct Party<K: Hosting> {
     pub(crate) id: u8,
     pub(crate) stake: Stake<K>,
     pub(crate) viewer: Viewer,
-    pub(crate) receipts: Vec<Receipt>,
+    pub(crate) receipts: Receipts,
 }
 
 impl<K: Hosting> Model for Party<K> {
-    ghost use Rattle.std.specs.Prelude.{◌≡◌, length};
+    ghost use Rattle.std.specs.Prelude.{◌≡◌, length, take};
+    ghost use Rattle.seat_rules.specs.Histories.{of_session};
     ghost use Rattle.seat_host.specs.Ledgers.{counted};
-    ghost use Rattle.seat_host.specs.Sessions.{Seat, Stands};
+    ghost use Rattle.seat_host.specs.Sessions.{Seat, Stands, KeepsLines, seat_of};
 
     ghost Value = { Seat };
 
-    ghost view = { λ p. record { id = p.id; receipts = p.receipts.items; front = p.viewer.front } };
+    ghost view = { λ p. seat_of p.id (length p.receipts.numbers) p.viewer.front };
 
-    ghost invariant = { λ p. (p.viewer.book ≡ K.book) × (p.viewer.grid ≡ K.grid) × (p.stake ≡ counted p.id (length p.receipts.items)) × Stands K.grid K.sessions (record { id = p.id; receipts = p.receipts.items; front = p.viewer.front }) };
+    ghost invariant = { λ p. (p.viewer.book ≡ K.book) × (p.viewer.grid ≡ K.grid) × (p.stake ≡ counted p.id (length p.receipts.numbers)) × Stands K.grid K.sessions (seat_of p.id (length p.receipts.numbers) p.viewer.front) × KeepsLines p.receipts (take (length p.receipts.numbers) (of_session p.id p.viewer.front)) };
 }
 
 impl<K: Hosting> Party<K> {
@@ -42,18 +43,19 @@ impl<K: Hosting> Party<K> {
         self.id
     }
 
-    /// The lines of its calls, in order.
-    pub fn receipts(&self) -> &[Receipt]
-        ensures { result.now ≡ self.now.receipts }
+    /// The numbers of the lines of its calls, in order.
+    pub fn numbers(&self) -> &[u32]
+        ensures { result.now ≡ numbers_of self.now.receipts }
     {
-        self.receipts.as_slice()
+        self.receipts.numbers()
     }
 
     /// The number of its next call.
     pub fn next_call(&self) -> u32
         ensures { result ≡ length self.now.receipts + 1 }
     {
-        self.receipts.len() as u32 + 1
+        let kept = &self.receipts;
+        kept.numbers().len() as u32 + 1
     }
 
     /// The line of its last call.
@@ -61,7 +63,10 @@ impl<K: Hosting> Party<K> {
         requires { 0 < length self.now.receipts }
         ensures { slice_get self.now.receipts (length self.now.receipts - 1) ≡ Some result.now }
     {
-        &self.receipts[self.receipts.len() - 1]
+        match self.receipts.last() {
+            Some(line) => line,
+            None => unreachable!(),
+        }
     }
 
     /// How many lines it has seen.
@@ -87,17 +92,17 @@ impl<K: Hosting> Party<K> {
     pub fn expect(&mut self, calls: usize)
         ensures { self.new ≡ self.old }
     {
-        let _ = self.receipts.reserve(calls);
+        self.receipts.expect(calls);
     }
 
     /// One that goes on from the lines that its viewer has seen. Its own among them are its receipts.
     #[tactic(auto, using(crate::proofs::Opening::seated_is))]
-    pub fn seated(id: u8, stake: Stake<K>, viewer: Viewer, receipts: Vec<Receipt>) -> Party<K>
+    pub fn seated(id: u8, stake: Stake<K>, viewer: Viewer, receipts: Receipts) -> Party<K>
         requires number { (id ≤ K.sessions) × (K.sessions < 9) }
-        requires stake { stake ≡ counted id (length receipts.items) }
+        requires stake { stake ≡ counted id (length receipts.numbers) }
         requires viewer { (viewer.book ≡ K.book) × (viewer.grid ≡ K.grid) }
         requires legal { IsLegal K.grid viewer.front × (length viewer.front ≤ 999999) }
-        requires receipts { receipts.items ≡ of_session id viewer.front }
+        requires receipts { KeepsLines receipts (of_session id viewer.front) }
         ensures { result ≡ seated id viewer.front }
     {
         Party {

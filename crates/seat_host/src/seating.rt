@@ -5,14 +5,14 @@ ghost use Rattle.seat_rules.specs.Journal.{IsLegal};
 ghost use Rattle.seat_rules.specs.Histories.{of_session};
 ghost use Rattle.seat_host.specs.Lawful.{CountsFirst};
 ghost use Rattle.seat_host.specs.Seating.{Seating};
-ghost use Rattle.seat_host.specs.Sessions.{seated, seated_sessions};
+ghost use Rattle.seat_host.specs.Sessions.{KeepsLines, seated, seated_sessions};
 
 use crate::ledgers::{Hosting, LineCounts, Stakes};
 use crate::manager::Manager;
 use crate::party::Party;
 use crate::session::Session;
 use airline_base::Memory;
-use line_booking::Receipt;
+use line_booking::{Receipt, Receipts};
 use seat_display::{Publisher, Viewer};
 use seat_journal::Entry;
 use std::alloc::Global;
@@ -133,7 +133,7 @@ fn seat_next<K: Hosting>(
         unreachable!()
     };
     let viewer = informed(publisher, viewer);
-    line_counts.add_all(&mut stake, receipts.len() as u64);
+    line_counts.add_all(&mut stake, receipts.numbers().len() as u64);
     Ok(Party::seated(id, stake, viewer, receipts))
 }
 
@@ -150,14 +150,20 @@ fn informed(publisher: &Publisher, viewer: Viewer) -> Viewer
     viewer
 }
 
-// The lines of a session among these, as its receipts.
-fn receipts_of(alloc: Global, session: u8, lines: &[Entry]) -> Result<Vec<Receipt>, Memory>
-    ensures { IfOk result (λ r. r.items ≡ of_session session lines.now) }
+// The receipts of a session for its lines among these.
+fn receipts_of(alloc: Global, session: u8, lines: &[Entry]) -> Result<Receipts, Memory>
+    ensures { IfOk result (λ r. KeepsLines r (of_session session lines.now)) }
 {
-    let mut receipts = Vec::new(alloc);
+    let mut receipts = Receipts::new(alloc);
     for line in lines {
         if line.session == session {
-            receipts.push(Receipt::of(line.copy(alloc)?))?;
+            let Ok(()) = receipts.reserve() else {
+                return Err(Memory);
+            };
+            let Ok(own) = line.copy(alloc) else {
+                return Err(Memory);
+            };
+            receipts.add(Receipt::of(own));
         }
     }
     Ok(receipts)

@@ -1,8 +1,9 @@
 //! Gathering: what a host, its manager and all its sessions come to.
-ghost use Rattle.std.specs.Prelude.{◌≡◌, ◌+◌, ◌↔◌, ◌<◌, ◌∷◌, length, false, true, slice_set, IfOk, IfErr, OnOk};
+ghost use Rattle.std.specs.Prelude.{◌≡◌, ◌+◌, ◌↔◌, ◌<◌, ◌∷◌, length, map, false, true, slice_set, IfOk, IfErr, OnOk};
 ghost use Rattle.std.specs.List.{AllByRecursion};
 ghost use Rattle.seat_rules.specs.Histories.{by_session};
 ghost use Rattle.seat_rules.specs.Headline.{Headline};
+ghost use Rattle.seat_host.specs.Sessions.{numbers_of};
 ghost use Rattle.seat_host.specs.Settling.{has_all, has_id, IsConfirmed};
 ghost use Rattle.seat_host.specs.declared.settling.GatherFault.TheVariants.{Missing};
 
@@ -11,12 +12,10 @@ use crate::ledgers::Hosting;
 use crate::manager::Manager;
 use crate::party::Party;
 use crate::session::Session;
+use crate::settled::{LineNumbers, Settled};
 use crate::under_lock::UnderLock;
-use airline_base::{Items, Memory};
-use line_booking::Receipt;
-use seat_journal::Entries;
+use airline_base::Memory;
 use seat_nesting::Grid;
-use seat_rules::Totals;
 use std::alloc::Global;
 use std::marker::Model;
 use std::sync::Wait;
@@ -29,20 +28,6 @@ pub enum GatherFault {
     /// A growth was refused.
     Memory,
 }
-
-/// The receipts of one session, in order.
-pub type Receipts = Items<Receipt>;
-
-/// The journal of a host that is over, its totals, and the receipts by session number.
-#[derive(Drop)]
-pub struct Settled {
-    pub journal: Entries,
-    pub totals: Totals,
-    pub receipts: AllReceipts,
-}
-
-/// The receipts of the manager, of session 1, of session 2, and so on.
-pub type AllReceipts = Items<Receipts>;
 
 /// A host that was not settled. Contracts see its journal. It is never dropped: `into_host` gives the host again.
 pub struct Unsettled<K: Hosting> {
@@ -104,13 +89,13 @@ pub fn gather<K: Hosting, R: Wait>(
     Ok(settle(rt, under_lock, manager, sessions, slots))
 }
 
-// What a host comes to with its manager and all its sessions, whose receipts go to these lists.
+// What a host comes to with its manager and all its sessions, the numbers of whose lines go to these lists.
 fn settle<K: Hosting, R: Wait>(
     rt: &R,
     under_lock: UnderLock<K>,
     manager: Manager<K>,
     sessions: Vec<Session<K>>,
-    slots: Vec<Receipts>,
+    slots: Vec<LineNumbers>,
 ) -> Settled
     requires all { has_all K.sessions sessions.items ≡ true }
     requires slots { length slots.items ≡ K.sessions + 1 }
@@ -121,11 +106,7 @@ fn settle<K: Hosting, R: Wait>(
     let mut under_lock = under_lock;
     let totals = under_lock.totals();
     let items = settle_all(rt, &mut under_lock, manager, sessions, slots);
-    Settled {
-        journal: under_lock.end(rt),
-        totals,
-        receipts: AllReceipts::from_vec(items),
-    }
+    Settled::of(under_lock.end(rt), totals, items)
 }
 
 // Hands all back, after the host has confirmed the manager and each session.
@@ -184,12 +165,12 @@ fn has_number<K: Hosting>(sessions: &[Session<K>], number: u8) -> bool
 }
 
 // An empty list for the manager, and one for each session.
-fn empty_lists(alloc: Global, sessions: u8) -> Result<Vec<Receipts>, Memory>
+fn empty_lists(alloc: Global, sessions: u8) -> Result<Vec<LineNumbers>, Memory>
     ensures { IfOk result (λ r. length r.items ≡ sessions + 1) }
 {
     let mut lists = Vec::new(alloc);
     for _number in 0..usize::from(sessions) + 1 {
-        lists.push(Receipts::new(alloc))?;
+        lists.push(LineNumbers::new(alloc))?;
     }
     Ok(lists)
 }
@@ -199,12 +180,12 @@ fn settle_all<K: Hosting, R: Wait>(
     under_lock: &mut UnderLock<K>,
     manager: Manager<K>,
     sessions: Vec<Session<K>>,
-    slots: Vec<Receipts>,
-) -> Vec<Receipts>
+    slots: Vec<LineNumbers>,
+) -> Vec<LineNumbers>
     requires all { has_all K.sessions sessions.items ≡ true }
     requires slots { length slots.items ≡ K.sessions + 1 }
     ensures same { under_lock.new ≡ under_lock.old }
-    ensures receipts { result.items ≡ by_session K.sessions under_lock.old }
+    ensures numbers { result.items ≡ map numbers_of (by_session K.sessions under_lock.old) }
     ensures each { AllByRecursion (IsConfirmed K.sessions under_lock.old) (manager ∷ sessions.items) }
     ensures number { manager.id ≡ 0 }
 {
@@ -225,13 +206,13 @@ fn settle_all<K: Hosting, R: Wait>(
 fn settle_one<K: Hosting, R: Wait>(
     rt: &R,
     under_lock: &mut UnderLock<K>,
-    slots: &mut Vec<Receipts>,
+    slots: &mut Vec<LineNumbers>,
     party: Party<K>,
 )
     requires { length slots.old.items ≡ K.sessions + 1 }
     ensures same { under_lock.new ≡ under_lock.old }
     ensures confirmed { IsConfirmed K.sessions under_lock.old party }
-    ensures slots { slots.new.items ≡ slice_set slots.old.items party.id party.receipts }
+    ensures slots { slots.new.items ≡ slice_set slots.old.items party.id (numbers_of party.receipts) }
 {
     let mut party = party;
     under_lock.confirm(rt, &mut party);
@@ -241,5 +222,5 @@ fn settle_one<K: Hosting, R: Wait>(
         viewer: _,
         receipts,
     } = party;
-    slots[usize::from(id)] = Receipts::from_vec(receipts);
+    slots[usize::from(id)] = LineNumbers::from_vec(receipts.into_numbers());
 }

@@ -1,12 +1,12 @@
 //! The replies to the receipts of the manager and of each session, one session after the other.
-ghost use Rattle.std.specs.Prelude.{◌≡◌, ◌≤◌, IfOk, OnOk, drop, length};
+ghost use Rattle.std.specs.Prelude.{◌≡◌, ◌≤◌, IfOk, OnOk, length};
 ghost use Rattle.seat_desk.specs.FlightsDesk.{IsPut, IsText};
 ghost use Rattle.seat_replies.specs.Answering.{AreAllAnswerable, AreAnswerable};
 ghost use Rattle.seat_replies.specs.Going.{behind};
 ghost use Rattle.seat_replies.specs.RunDesk.{AreSessions, IsAnswer, requests_of};
 
 use airimp_lines::{Request, Requests};
-use seat_host::{Receipt, Receipts};
+use seat_host::{AllReceipts, Receipts};
 use seat_journal::Entry;
 use seat_replies::{Past, put_answer};
 use ssim_flights::Flights;
@@ -21,7 +21,7 @@ pub fn replies(
     past: &Past,
     scripts: &[Requests],
     journal: &[Entry],
-    receipts: &[Receipts],
+    receipts: &AllReceipts<'_>,
 ) -> Result<Vec<u8>, AllocError>
     requires few { length receipts.now ≤ 9 }
     requires lines { AreAllAnswerable flights.now scripts.now journal.now (behind past.now.calls receipts.now) }
@@ -30,8 +30,9 @@ pub fn replies(
 {
     let mut text = Vec::new(alloc);
     for session in 0..receipts.len() {
-        let lines = added(&receipts[session], past.calls[session]);
-        put_session(&mut text, flights, scripts, session, journal, lines)?;
+        let own = receipts.at(session);
+        let lines = own.behind(past.calls[session] as usize);
+        put_session(&mut text, flights, scripts, session, journal, &lines)?;
     }
     Ok(text)
 }
@@ -44,7 +45,7 @@ fn put_session(
     scripts: &[Requests],
     session: usize,
     journal: &[Entry],
-    receipts: &[Receipt],
+    receipts: &Receipts<'_>,
 ) -> Result<(), AllocError>
     requires lines { AreAnswerable flights.now (requests_of scripts.now session) journal.now receipts.now }
     ensures { OnOk result (IsPut (IsAnswer flights.now (requests_of scripts.now session) journal.now) 0 receipts.now
@@ -59,15 +60,6 @@ fn put_session(
     }
 }
 
-/// The lines of a session behind so many.
-fn added(receipts: &Receipts, past: u32) -> &[Receipt]
-    ensures { result.now ≡ drop past receipts.now }
-{
-    let lines = receipts.as_slice();
-    let front = lines.len().min(past as usize);
-    &lines[front..]
-}
-
 /// Adds the answers to lines, each beside the request at its place.
 #[tactic(auto, using(seat_desk::proofs::Texts::put_none, seat_replies::proofs::Parts::answers_more, seat_replies::proofs::Parts::line_answerable))]
 fn put_answers(
@@ -75,7 +67,7 @@ fn put_answers(
     flights: &Flights,
     requests: &[Request],
     journal: &[Entry],
-    receipts: &[Receipt],
+    receipts: &Receipts<'_>,
 ) -> Result<(), AllocError>
     requires lines { AreAnswerable flights.now requests.now journal.now receipts.now }
     ensures { OnOk result (IsPut (IsAnswer flights.now requests.now journal.now) 0 receipts.now text.old.items
@@ -88,7 +80,7 @@ fn put_answers(
             requests,
             journal,
             place,
-            receipts[place].entry(),
+            receipts.at(place),
         )?;
     }
     Ok(())

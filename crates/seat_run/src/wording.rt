@@ -12,7 +12,7 @@ use crate::replies::replies;
 use crate::sealing::journal_bytes;
 use airimp_lines::Requests;
 use seat_desk::DeskFault;
-use seat_host::Receipts;
+use seat_host::AllReceipts;
 use seat_journal::Entry;
 use seat_replies::Past;
 use seat_seal::{Imprint, front_of, imprint_of};
@@ -36,7 +36,7 @@ pub(crate) fn word_beside<X: Threads>(
     past: &Past,
     scripts: &[Requests],
     journal: &[Entry],
-    receipts: &[Receipts],
+    receipts: &AllReceipts<'_>,
 ) -> Result<Texts, DeskFault>
     requires few { length receipts.now ≤ 9 }
     requires lines { AreAllAnswerable flights.now scripts.now journal.now (behind past.now.calls receipts.now) }

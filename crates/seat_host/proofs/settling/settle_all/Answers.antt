@@ -2,7 +2,8 @@ use Rattle.std.proofs.Common.{◌≡◌, ◌++◌, ◌∷◌, [], List, ◌∙�
 use Rattle.std.specs.List.{AllByRecursion}
 use Rattle.seat_journal.specs.declared.entry.Entry.{Entry}
 use Rattle.seat_rules.specs.Histories.{by_session}
-use Rattle.seat_host.specs.Sessions.{Seat}
+use Rattle.std.specs.Prelude.{map}
+use Rattle.seat_host.specs.Sessions.{Seat, numbers_of}
 use Rattle.seat_host.specs.Settling.{IsConfirmed}
 use Rattle.seat_host.proofs.Gathered.{ends, goes_on, starts}
 use Rattle.seat_host.proofs.settling.settle_all.Goals as goal
@@ -29,10 +30,10 @@ loop-done-preserved g c =
       left = omega (arith, c.loop-done.invariant.left, ap length split, length-append rest (session ∷ []), c.loop-done.sessions.ok, c.pop.new.self.ok);
     }
 
-pub returns-clause-receipts : goal.returns-clause-receipts
-returns-clause-receipts g c =
+pub returns-clause-numbers : goal.returns-clause-numbers
+returns-clause-numbers g c =
     let none : length c.loop-done.sessions.items ≡ 0 = omega (arith, c.loop-done.sessions.ok, c.loop-done.invariant.left, c.loop-done-test.false, c.loop-done.auto._done-end, c.len-done-end.ensures) in
-    (ends _ _ _ _ _ c.loop-done.invariant.gathering none).0 ∙ ap (by_session g.K.Hosting.sessions) c.settle_one.ensures.same
+    (ends _ _ _ _ _ c.loop-done.invariant.gathering none).0 ∙ ap (λ (journal : List Entry). map numbers_of (by_session g.K.Hosting.sessions journal)) c.settle_one.ensures.same
 
 pub returns-clause-each : goal.returns-clause-each
 returns-clause-each g c =
