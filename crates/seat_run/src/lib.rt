@@ -3,6 +3,7 @@
 //! and every answer to the host.
 #![tactic(auto)]
 
+mod front_text;
 mod replies;
 mod resume;
 mod run;

@@ -1,4 +1,4 @@
-//! The texts of a run: its journal with the imprint of it, and beside these, on another thread, the replies.
+//! The texts of a run: the replies, and beside these, on another thread, its journal with the imprint of it.
 ghost use Rattle.std.specs.Prelude.{◌≡◌, ◌≤◌, IfErr, IfOk, length};
 ghost use Rattle.seat_desk.specs.FlightsDesk.{IsText};
 ghost use Rattle.seat_journal.specs.Text.{journal_text};
@@ -8,14 +8,16 @@ ghost use Rattle.seat_replies.specs.RunDesk.{AreSessions};
 ghost use Rattle.seat_seal.specs.Fronts.{front_of};
 ghost use Rattle.seat_seal.specs.Imprints.{imprint_of};
 
+use crate::front_text::front_text;
 use crate::replies::replies;
-use crate::sealing::journal_bytes;
 use airimp_lines::Requests;
 use seat_desk::DeskFault;
 use seat_host::AllReceipts;
 use seat_journal::Entry;
+use seat_recovery::end_line;
 use seat_replies::Past;
-use seat_seal::{Imprint, front_of, imprint_of};
+use seat_seal::Imprint;
+use seat_sealing::ends_are_last;
 use ssim_flights::Flights;
 use std::alloc::{AllocError, Global};
 use std::thread::{Threads, join};
@@ -28,7 +30,7 @@ pub(crate) struct Texts {
     pub replies: Vec<u8>,
 }
 
-/// Words the journal and takes its imprint on a thread of their own, where one can be had, and beside them words the replies.
+/// Words the replies on a thread of their own, where one can be had, and beside that the journal, of which it takes the imprint.
 pub(crate) fn word_beside<X: Threads>(
     rt: &X,
     alloc: Global,
@@ -46,18 +48,18 @@ pub(crate) fn word_beside<X: Threads>(
         (behind past.now.calls receipts.now) t.replies.items) }
     ensures memory { IfErr result (λ f. f ≡ DeskFault.Memory) }
 {
-    let there = || -> Result<(Vec<u8>, Imprint), DeskFault>
-        ensures text { IfOk result (λ w. w.0.items ≡ journal_text journal.entry.now) }
-        ensures imprint { IfOk result (λ w. w.1 ≡ imprint_of (front_of w.0.items)) }
-        ensures memory { IfErr result (λ f. f ≡ DeskFault.Memory) }
-    { word(alloc, journal) };
-    let here = || -> Result<Vec<u8>, AllocError>
+    let there = || -> Result<Vec<u8>, AllocError>
         requires { (length receipts.now ≤ 9)
             × AreAllAnswerable flights.now scripts.now journal.now (behind past.now.calls receipts.now) }
         ensures { IfOk result (λ text. IsText (AreSessions flights.entry.now scripts.entry.now journal.entry.now) 0
             (behind past.entry.now.calls receipts.entry.now) text.items) }
     { replies(alloc, flights, past, scripts, journal, receipts) };
-    let (worded, replies) = join(rt, there, here);
+    let here = || -> Result<(Vec<u8>, Imprint), DeskFault>
+        ensures text { IfOk result (λ w. w.0.items ≡ journal_text journal.entry.now) }
+        ensures imprint { IfOk result (λ w. w.1 ≡ imprint_of (front_of w.0.items)) }
+        ensures memory { IfErr result (λ f. f ≡ DeskFault.Memory) }
+    { word(rt, alloc, journal) };
+    let (replies, worded) = join(rt, there, here);
     let (text, imprint) = worded?;
     match replies {
         Ok(replies) => Ok(Texts {
@@ -69,12 +71,23 @@ pub(crate) fn word_beside<X: Threads>(
     }
 }
 
-fn word(alloc: Global, journal: &[Entry]) -> Result<(Vec<u8>, Imprint), DeskFault>
+/// The text of a journal, and the imprint of its head and its lines.
+#[tactic(auto, unfolding(seat_journal::specs::Text::journal_text))]
+fn word<X: Threads>(
+    rt: &X,
+    alloc: Global,
+    journal: &[Entry],
+) -> Result<(Vec<u8>, Imprint), DeskFault>
     ensures text { IfOk result (λ w. w.0.items ≡ journal_text journal.now) }
     ensures imprint { IfOk result (λ w. w.1 ≡ imprint_of (front_of w.0.items)) }
     ensures memory { IfErr result (λ f. f ≡ DeskFault.Memory) }
 {
-    let text = journal_bytes(alloc, journal)?;
-    let imprint = imprint_of(front_of(&text));
+    ends_are_last();
+    let Ok((mut text, imprint)) = front_text(rt, alloc, journal) else {
+        return Err(DeskFault::Memory);
+    };
+    let Ok(()) = text.extend_from_slice(end_line(journal.len()).as_slice()) else {
+        return Err(DeskFault::Memory);
+    };
     Ok((text, imprint))
 }
