@@ -74,14 +74,7 @@ fn put_answers(
         text.new.items) }
 {
     for place in 0..receipts.len() {
-        put_answer(
-            text,
-            flights,
-            requests,
-            journal,
-            place,
-            receipts.at(place),
-        )?;
+        put_answer(text, flights, requests, journal, place, receipts.at(place))?;
     }
     Ok(())
 }
