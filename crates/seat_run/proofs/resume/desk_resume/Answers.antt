@@ -15,43 +15,43 @@ use Rattle.seat_run.proofs.resume.desk_resume.Goals as goal
 
 pub returns-clause-ok : goal.returns-clause-ok
 returns-clause-ok g c =
-    all_sealed (AreTexts c.in_ok-settled.field-0.basis c.as_slice.result.now c.in_ok-settled.field-0.changes c.in_ok-settled.field-0.behind c.args.today c.in_ok-settled.field-0.earlier c.as_slice-2.result.now c.deref-2.result.now)
+    all_sealed (AreTexts c.in_ok-settled.field-0.basis c.as_slice.result.now c.in_ok-settled.field-0.changes c.in_ok-settled.field-0.behind c.args.today c.in_ok-settled.field-0.earlier c.journal.result.now c.deref-2.result.now)
     (IsSealedResumeOf c.args.besides.now.journal g.I.Read.remaining g.I.Read.remaining c.args.inputs.now c.args.today (g.I.Read.remaining c.args.after.now) c.args.given (g.I.Read.remaining c.args.resumed.now) (map g.I.Read.remaining c.args.scripts.now) (g.I.Read.remaining c.args.changes.now))
     (λ journal entry said t. sealed_resume (g.I.Read.remaining c.args.inputs.now.set) (g.I.Read.remaining c.args.inputs.now.limits) (g.I.Read.remaining c.args.after.now) c.args.inputs.now.first c.args.inputs.now.days c.args.today
     (map g.I.Read.remaining c.args.scripts.now) (g.I.Read.remaining c.args.changes.now) c.in_ok-asked.asked.flights c.in_ok-asked.asked.past.grid c.in_ok-asked.asked.past.journal c.in_ok-asked.asked.scripts c.in_ok-asked.asked.changes.items
     c.in_ok-settled.field-0.settled.journal c.in_ok-settled.field-0.settled.receipts c.in_ok-settled.field-0.replies.items
     (record { is_history = c.in_ok-settled.ensures.ok; are_entries = c.in_ok-settled.ensures.entries; is_replied = c.in_ok-settled.ensures.replies })
     c.in_ok-asked.asked.basis c.in_ok-asked.ensures.basis c.in_ok-asked.asked.imprints c.in_ok-asked.ensures.imprints c.in_ok-asked.asked.changes_imprint c.in_ok-asked.ensures.changed c.in_ok-asked.asked.behind c.in_ok-asked.asked.earlier c.args.besides.now.journal (g.I.Read.remaining c.args.resumed.now) c.args.given c.in_ok-asked.ensures.ok c.in_ok-asked.ensures.behind c.in_ok-asked.ensures.earlier journal entry said (same_texts c.in_ok-settled.field-0.basis c.in_ok-asked.asked.basis c.as_slice.result.now c.in_ok-asked.asked.imprints c.in_ok-settled.field-0.changes c.in_ok-asked.asked.changes_imprint c.in_ok-settled.field-0.behind c.in_ok-asked.asked.behind c.args.today
-    c.in_ok-settled.field-0.earlier c.in_ok-asked.asked.earlier c.as_slice-2.result.now c.in_ok-settled.field-0.settled.journal c.deref-2.result.now c.in_ok-settled.field-0.replies.items
-    c.in_ok-settled.ensures.basis (c.as_slice.ensures ∙ c.in_ok-settled.ensures.imprints) c.in_ok-settled.ensures.changes c.in_ok-settled.ensures.behind c.in_ok-settled.ensures.earlier c.as_slice-2.ensures c.deref-2.ensures.value journal entry said t))
+    c.in_ok-settled.field-0.earlier c.in_ok-asked.asked.earlier c.journal.result.now c.in_ok-settled.field-0.settled.journal c.deref-2.result.now c.in_ok-settled.field-0.replies.items
+    c.in_ok-settled.ensures.basis (c.as_slice.ensures ∙ c.in_ok-settled.ensures.imprints) c.in_ok-settled.ensures.changes c.in_ok-settled.ensures.behind c.in_ok-settled.ensures.earlier c.journal.ensures c.deref-2.ensures.value journal entry said t))
     (g.J.Replaced.named c.args.journal.now) (g.J.Replaced.named c.put_sealed.new.journal) (g.K.Replaced.named c.args.seal.now) (g.K.Replaced.named c.put_sealed.new.seal)
     (g.J.Replaced.may_leave c.put_sealed.new.journal) (g.K.Replaced.may_leave c.put_sealed.new.seal) (g.W.Write.contents c.args.out.now) (g.W.Write.contents c.put_sealed.new.out)
     c.put_sealed.result c.put_sealed.ensures.ok
 
 pub returns-clause-large : goal.returns-clause-large
 returns-clause-large g c =
-    all_unsealable (AreTexts c.in_ok-settled.field-0.basis c.as_slice.result.now c.in_ok-settled.field-0.changes c.in_ok-settled.field-0.behind c.args.today c.in_ok-settled.field-0.earlier c.as_slice-2.result.now c.deref-2.result.now)
+    all_unsealable (AreTexts c.in_ok-settled.field-0.basis c.as_slice.result.now c.in_ok-settled.field-0.changes c.in_ok-settled.field-0.behind c.args.today c.in_ok-settled.field-0.earlier c.journal.result.now c.deref-2.result.now)
     (IsSealedResumeOf c.args.besides.now.journal g.I.Read.remaining g.I.Read.remaining c.args.inputs.now c.args.today (g.I.Read.remaining c.args.after.now) c.args.given (g.I.Read.remaining c.args.resumed.now) (map g.I.Read.remaining c.args.scripts.now) (g.I.Read.remaining c.args.changes.now))
     (λ journal entry said t. sealed_resume (g.I.Read.remaining c.args.inputs.now.set) (g.I.Read.remaining c.args.inputs.now.limits) (g.I.Read.remaining c.args.after.now) c.args.inputs.now.first c.args.inputs.now.days c.args.today
     (map g.I.Read.remaining c.args.scripts.now) (g.I.Read.remaining c.args.changes.now) c.in_ok-asked.asked.flights c.in_ok-asked.asked.past.grid c.in_ok-asked.asked.past.journal c.in_ok-asked.asked.scripts c.in_ok-asked.asked.changes.items
     c.in_ok-settled.field-0.settled.journal c.in_ok-settled.field-0.settled.receipts c.in_ok-settled.field-0.replies.items
     (record { is_history = c.in_ok-settled.ensures.ok; are_entries = c.in_ok-settled.ensures.entries; is_replied = c.in_ok-settled.ensures.replies })
     c.in_ok-asked.asked.basis c.in_ok-asked.ensures.basis c.in_ok-asked.asked.imprints c.in_ok-asked.ensures.imprints c.in_ok-asked.asked.changes_imprint c.in_ok-asked.ensures.changed c.in_ok-asked.asked.behind c.in_ok-asked.asked.earlier c.args.besides.now.journal (g.I.Read.remaining c.args.resumed.now) c.args.given c.in_ok-asked.ensures.ok c.in_ok-asked.ensures.behind c.in_ok-asked.ensures.earlier journal entry said (same_texts c.in_ok-settled.field-0.basis c.in_ok-asked.asked.basis c.as_slice.result.now c.in_ok-asked.asked.imprints c.in_ok-settled.field-0.changes c.in_ok-asked.asked.changes_imprint c.in_ok-settled.field-0.behind c.in_ok-asked.asked.behind c.args.today
-    c.in_ok-settled.field-0.earlier c.in_ok-asked.asked.earlier c.as_slice-2.result.now c.in_ok-settled.field-0.settled.journal c.deref-2.result.now c.in_ok-settled.field-0.replies.items
-    c.in_ok-settled.ensures.basis (c.as_slice.ensures ∙ c.in_ok-settled.ensures.imprints) c.in_ok-settled.ensures.changes c.in_ok-settled.ensures.behind c.in_ok-settled.ensures.earlier c.as_slice-2.ensures c.deref-2.ensures.value journal entry said t))
+    c.in_ok-settled.field-0.earlier c.in_ok-asked.asked.earlier c.journal.result.now c.in_ok-settled.field-0.settled.journal c.deref-2.result.now c.in_ok-settled.field-0.replies.items
+    c.in_ok-settled.ensures.basis (c.as_slice.ensures ∙ c.in_ok-settled.ensures.imprints) c.in_ok-settled.ensures.changes c.in_ok-settled.ensures.behind c.in_ok-settled.ensures.earlier c.journal.ensures c.deref-2.ensures.value journal entry said t))
     _ c.put_sealed.result c.put_sealed.ensures.large
 
 pub returns-clause-device : goal.returns-clause-device
 returns-clause-device g c =
-    all_stopped (AreTexts c.in_ok-settled.field-0.basis c.as_slice.result.now c.in_ok-settled.field-0.changes c.in_ok-settled.field-0.behind c.args.today c.in_ok-settled.field-0.earlier c.as_slice-2.result.now c.deref-2.result.now)
+    all_stopped (AreTexts c.in_ok-settled.field-0.basis c.as_slice.result.now c.in_ok-settled.field-0.changes c.in_ok-settled.field-0.behind c.args.today c.in_ok-settled.field-0.earlier c.journal.result.now c.deref-2.result.now)
     (IsSealedResumeOf c.args.besides.now.journal g.I.Read.remaining g.I.Read.remaining c.args.inputs.now c.args.today (g.I.Read.remaining c.args.after.now) c.args.given (g.I.Read.remaining c.args.resumed.now) (map g.I.Read.remaining c.args.scripts.now) (g.I.Read.remaining c.args.changes.now))
     (λ journal entry said t. sealed_resume (g.I.Read.remaining c.args.inputs.now.set) (g.I.Read.remaining c.args.inputs.now.limits) (g.I.Read.remaining c.args.after.now) c.args.inputs.now.first c.args.inputs.now.days c.args.today
     (map g.I.Read.remaining c.args.scripts.now) (g.I.Read.remaining c.args.changes.now) c.in_ok-asked.asked.flights c.in_ok-asked.asked.past.grid c.in_ok-asked.asked.past.journal c.in_ok-asked.asked.scripts c.in_ok-asked.asked.changes.items
     c.in_ok-settled.field-0.settled.journal c.in_ok-settled.field-0.settled.receipts c.in_ok-settled.field-0.replies.items
     (record { is_history = c.in_ok-settled.ensures.ok; are_entries = c.in_ok-settled.ensures.entries; is_replied = c.in_ok-settled.ensures.replies })
     c.in_ok-asked.asked.basis c.in_ok-asked.ensures.basis c.in_ok-asked.asked.imprints c.in_ok-asked.ensures.imprints c.in_ok-asked.asked.changes_imprint c.in_ok-asked.ensures.changed c.in_ok-asked.asked.behind c.in_ok-asked.asked.earlier c.args.besides.now.journal (g.I.Read.remaining c.args.resumed.now) c.args.given c.in_ok-asked.ensures.ok c.in_ok-asked.ensures.behind c.in_ok-asked.ensures.earlier journal entry said (same_texts c.in_ok-settled.field-0.basis c.in_ok-asked.asked.basis c.as_slice.result.now c.in_ok-asked.asked.imprints c.in_ok-settled.field-0.changes c.in_ok-asked.asked.changes_imprint c.in_ok-settled.field-0.behind c.in_ok-asked.asked.behind c.args.today
-    c.in_ok-settled.field-0.earlier c.in_ok-asked.asked.earlier c.as_slice-2.result.now c.in_ok-settled.field-0.settled.journal c.deref-2.result.now c.in_ok-settled.field-0.replies.items
-    c.in_ok-settled.ensures.basis (c.as_slice.ensures ∙ c.in_ok-settled.ensures.imprints) c.in_ok-settled.ensures.changes c.in_ok-settled.ensures.behind c.in_ok-settled.ensures.earlier c.as_slice-2.ensures c.deref-2.ensures.value journal entry said t))
+    c.in_ok-settled.field-0.earlier c.in_ok-asked.asked.earlier c.journal.result.now c.in_ok-settled.field-0.settled.journal c.deref-2.result.now c.in_ok-settled.field-0.replies.items
+    c.in_ok-settled.ensures.basis (c.as_slice.ensures ∙ c.in_ok-settled.ensures.imprints) c.in_ok-settled.ensures.changes c.in_ok-settled.ensures.behind c.in_ok-settled.ensures.earlier c.journal.ensures c.deref-2.ensures.value journal entry said t))
     (FailsSealedResume c.args.besides.now g.I.Read.remaining g.I.Read.remaining c.args.inputs.now c.args.today (g.I.Read.remaining c.args.after.now) (g.I.Read.remaining c.args.resumed.now) (map g.I.Read.remaining c.args.scripts.now)
     (HasFirstLoadFailed g.I.Read.remaining g.I.Failures.failure_count g.I.Failures.failure_count c.args.inputs.now c.read_resumed.new.inputs) (HasFailed g.I.Failures.failure_count c.args.after.now c.read_resumed.new.after)
     (HasFailed g.I.Failures.failure_count c.args.resumed.now c.read_resumed.new.journal)
