@@ -23,23 +23,28 @@ no_numbers rows numbers is = record {
   each = λ i k at. (let no : None ≡ Some k = sym (ap (λ (l : List (Option ℕ)). number_at l i) is ∙ none_at (length rows) i) ∙ at in absurd cc);
 }
 
--- the ladder of a row is put, and its number stands beside the row
-pub put_number : (numbers : List (Option ℕ)) (rows : List LimitRow) (ladders after : List Steps) (i number : ℕ) (ladder : Steps)
-    → AreNumbers numbers rows ladders → i < length rows → number ≡ length ladders → after ≡ ladders ++ ladder ∷ []
-    → ladder ≡ row_steps rows (Some i) → AreNumbers (set numbers i (Some number)) rows after
-put_number numbers rows ladders after i number ladder are inside at after_is is = record {
+-- one ladder more leaves the numbers as they are
+pub still_numbers : (numbers : List (Option ℕ)) (rows : List LimitRow) (ladders after : List Steps) (ladder : Steps)
+    → AreNumbers numbers rows ladders → after ≡ ladders ++ ladder ∷ [] → AreNumbers numbers rows after
+still_numbers numbers rows ladders after ladder are after_is = record {
+  counted = are.counted;
+  each = λ i k at.
+      let grows : Grows ladders after = subst (λ (l : List Steps). Grows ladders l) (sym after_is) (grows_one ladders ladder) in
+      let old = are.each i k at in
+      let few = old.0 in
+      let le = grows.longer in
+      (omega (arith, few, le), grows.same k old.0 ∙ old.1);
+}
+
+-- the number of a row's ladder stands beside the row
+pub note_number : (numbers : List (Option ℕ)) (rows : List LimitRow) (ladders : List Steps) (i number : ℕ)
+    → AreNumbers numbers rows ladders → i < length rows → number < length ladders
+    → steps_at ladders number ≡ row_steps rows (Some i) → AreNumbers (set numbers i (Some number)) rows ladders
+note_number numbers rows ladders i number are inside there is = record {
   counted = length-set numbers i (Some number) ∙ are.counted;
   each = λ j k e. of j k (j == i) refl e;
 }
   where
-    one : (number < length after) × (steps_at after number ≡ row_steps rows (Some i))
-    one =
-        subst (λ (l : List Steps). (number < length l) × (steps_at l number ≡ row_steps rows (Some i))) (sym after_is)
-        (there_one ladders ladder (row_steps rows (Some i)) number at is)
-
-    grows : Grows ladders after
-    grows = subst (λ (l : List Steps). Grows ladders l) (sym after_is) (grows_one ladders ladder)
-
     written : (j : ℕ) (b : Bool) → (j == i) ≡ b
         → number_at (set numbers i (Some number)) j ≡ (if b then Some number else number_at numbers j)
     written j b h =
@@ -47,17 +52,13 @@ put_number numbers rows ladders after i number ladder are inside at after_is is 
         ∙ ap (λ (t : Bool). if t then Some number else number_at numbers j) h
 
     of : (j k : ℕ) (b : Bool) → (j == i) ≡ b → number_at (set numbers i (Some number)) j ≡ Some k
-        → (k < length after) × (steps_at after k ≡ row_steps rows (Some j))
+        → (k < length ladders) × (steps_at ladders k ≡ row_steps rows (Some j))
     of j k true h e =
         let same : Some number ≡ Some k = sym (written j true h) ∙ e in
         let row : j ≡ i = eqb-true j i h in
-        subst (λ (n : ℕ). (n < length after) × (steps_at after n ≡ row_steps rows (Some j))) (cc)
-        (subst (λ (r : ℕ). (number < length after) × (steps_at after number ≡ row_steps rows (Some r))) (sym row) one)
-    of j k false h e =
-        let old = are.each j k (sym (written j false h) ∙ e) in
-        let few = old.0 in
-        let le = grows.longer in
-        (omega (arith, few, le), grows.same k old.0 ∙ old.1)
+        subst (λ (n : ℕ). (n < length ladders) × (steps_at ladders n ≡ row_steps rows (Some j))) (cc)
+        (there, is ∙ ap (λ (r : ℕ). row_steps rows (Some r)) (sym row))
+    of j k false h e = are.each j k (sym (written j false h) ∙ e)
 
 pub put_steps : (ladders after : List Steps) (number : ℕ) (ladder : Steps) → number ≡ length ladders
     → after ≡ ladders ++ ladder ∷ [] → steps_at after number ≡ ladder

@@ -99,3 +99,9 @@ pub record AreNumbers (numbers : List (Option ℕ)) (rows : List LimitRow) (ladd
   pub counted : length numbers ≡ length rows
   pub each : (i k : ℕ) → number_at numbers i ≡ Some k
       → (k < length ladders) × (steps_at ladders k ≡ row_steps rows (Some i))
+
+-- a number that stands beside a row with an equal ladder
+pub record IsNumberOf (numbers : List (Option ℕ)) (rows : List LimitRow) (ladder : Steps) (k : ℕ) : Type 0 where
+  pub row : ℕ
+  pub beside : number_at numbers row ≡ Some k
+  pub same : row_steps rows (Some row) ≡ ladder

@@ -1,10 +1,11 @@
 //! The grid that limit rows give to dated flights.
-ghost use Rattle.std.specs.Prelude.{◌≡◌, ◌<◌, ◌++◌, ◌∷◌, [], length, IfOk, OnOk, IfSome};
+ghost use Rattle.std.specs.Prelude.{◌≡◌, ◌<◌, ◌++◌, ◌∷◌, [], length, Some, IfOk, OnOk, IfSome};
+ghost use Rattle.seat_nesting.specs.Nesting.{steps_at};
 ghost use Rattle.seat_nesting.specs.Planning.{steps_in};
-ghost use Rattle.seat_limits.specs.Authorised.{authorised, authorised_grid, authorised_legs, row_steps, AreNumbers};
+ghost use Rattle.seat_limits.specs.Authorised.{authorised, authorised_grid, authorised_legs, row_steps, AreNumbers, IsNumberOf};
 ghost use Rattle.seat_limits.specs.RowStretches.{AllKnow, IsRowIndex};
 
-use crate::limit_row::LimitRow;
+use crate::limit_row::{LimitRow, RowLadder};
 use crate::row_index::{Near, Pair, RowIndex, leg_pair_of};
 use airline_base::{Day, Memory};
 use seat_nesting::{Grid, GridPlan};
@@ -23,6 +24,15 @@ pub fn build_grid(alloc: Global, flights: &Flights, rows: &[LimitRow]) -> Result
         return Err(Memory);
     };
     Grid::of(alloc, plan)
+}
+
+/// The numbers of the rows' ladders.
+#[derive(Drop)]
+struct LadderNumbers {
+    /// Beside each row that of its ladder, once a leg has had the row.
+    beside: Vec<Option<u32>>,
+    /// The rows whose ladders were put last, each where the number of its ladder leaves it.
+    latest: [u32; 8],
 }
 
 /// The ladders of each flight's legs.
@@ -59,15 +69,15 @@ fn add_flight(
     rows: &[LimitRow],
     index: &RowIndex,
     nears: &mut [Near],
-    numbers: &mut Vec<Option<u32>>,
+    numbers: &mut LadderNumbers,
 ) -> Result<(), Memory>
     requires closed { plan.old.legs ≡ [] }
     requires nears { AllKnow index.now.last nears.old }
     requires index { IsRowIndex index.now.last index.now.edges.items index.now.found.items rows.now }
-    requires numbers { AreNumbers numbers.old.items rows.now plan.old.ladders }
+    requires numbers { AreNumbers numbers.old.beside.items rows.now plan.old.ladders }
     ensures flights { OnOk result (plan.new.flights ≡ plan.old.flights ++ authorised_legs rows.now flight.now ∷ []) }
     ensures closed { OnOk result (plan.new.legs ≡ []) }
-    ensures numbers { OnOk result (AreNumbers numbers.new.items rows.now plan.new.ladders) }
+    ensures numbers { OnOk result (AreNumbers numbers.new.beside.items rows.now plan.new.ladders) }
     ensures nears { AllKnow index.now.last nears.new }
 {
     let legs = flight.legs.as_slice();
@@ -108,27 +118,30 @@ fn row_of(
 
 /// Room for the number of each row's ladder.
 #[tactic(auto, using(crate::proofs::Sharing::no_numbers))]
-fn no_numbers(alloc: Global, rows: &[LimitRow]) -> Result<Vec<Option<u32>>, Memory>
-    ensures { IfOk result (λ numbers. AreNumbers numbers.items rows.now []) }
+fn no_numbers(alloc: Global, rows: &[LimitRow]) -> Result<LadderNumbers, Memory>
+    ensures { IfOk result (λ numbers. AreNumbers numbers.beside.items rows.now []) }
 {
-    let Ok(numbers) = vec![in alloc; None; rows.len()] else {
+    let Ok(beside) = vec![in alloc; None; rows.len()] else {
         return Err(Memory);
     };
-    Ok(numbers)
+    Ok(LadderNumbers {
+        beside,
+        latest: [0; 8],
+    })
 }
 
-/// The number of the ladder of a row, if there is a row: it is put when a leg first has the row.
+/// The number of the ladder of a row, if there is a row.
 fn number_of(
     plan: &mut GridPlan,
     rows: &[LimitRow],
-    numbers: &mut Vec<Option<u32>>,
+    numbers: &mut LadderNumbers,
     row: Option<u32>,
 ) -> Result<Option<u32>, Memory>
     requires inside { IfSome row (λ i. i < length rows.now) }
-    requires numbers { AreNumbers numbers.old.items rows.now plan.old.ladders }
+    requires numbers { AreNumbers numbers.old.beside.items rows.now plan.old.ladders }
     ensures there { IfOk result (λ number. IfSome number (λ k. k < length plan.new.ladders)) }
     ensures steps { IfOk result (λ number. steps_in plan.new.ladders number ≡ row_steps rows.now row) }
-    ensures numbers { OnOk result (AreNumbers numbers.new.items rows.now plan.new.ladders) }
+    ensures numbers { OnOk result (AreNumbers numbers.new.beside.items rows.now plan.new.ladders) }
     ensures flights { OnOk result (plan.new.flights ≡ plan.old.flights) }
     ensures legs { OnOk result (plan.new.legs ≡ plan.old.legs) }
 {
@@ -136,12 +149,54 @@ fn number_of(
         return Ok(None);
     };
     let i = row as usize;
-    if let Some(number) = numbers[i] {
+    if let Some(number) = numbers.beside[i] {
         return Ok(Some(number));
     }
-    let Ok(number) = plan.put(rows[i].ladder.ladder()) else {
+    let Ok(number) = number_for(plan, rows, numbers, row) else {
         return Err(Memory);
     };
-    numbers[i] = Some(number);
+    numbers.beside[i] = Some(number);
     Ok(Some(number))
+}
+
+/// The number for the ladder of a row: that of an equal one among the last that were put, or else its own, and it is put.
+fn number_for(
+    plan: &mut GridPlan,
+    rows: &[LimitRow],
+    numbers: &mut LadderNumbers,
+    row: u32,
+) -> Result<u32, Memory>
+    requires inside { row < length rows.now }
+    requires numbers { AreNumbers numbers.old.beside.items rows.now plan.old.ladders }
+    ensures there { IfOk result (λ k. k < length plan.new.ladders) }
+    ensures steps { IfOk result (λ k. steps_at plan.new.ladders k ≡ row_steps rows.now (Some row)) }
+    ensures numbers { OnOk result (AreNumbers numbers.new.beside.items rows.now plan.new.ladders) }
+    ensures flights { OnOk result (plan.new.flights ≡ plan.old.flights) }
+    ensures legs { OnOk result (plan.new.legs ≡ plan.old.legs) }
+{
+    let ladder = &rows[row as usize].ladder;
+    if let Some(number) = number_of_equal(rows, numbers, ladder) {
+        return Ok(number);
+    }
+    let Ok(number) = plan.put(ladder.ladder()) else {
+        return Err(Memory);
+    };
+    numbers.latest[number as usize % 8] = row;
+    Ok(number)
+}
+
+/// The number of an equal ladder among those that were put last.
+fn number_of_equal(rows: &[LimitRow], numbers: &LadderNumbers, ladder: &RowLadder) -> Option<u32>
+    requires { length numbers.now.beside.items ≡ length rows.now }
+    ensures { IfSome result (IsNumberOf numbers.now.beside.items rows.now ladder.now) }
+{
+    for row in &numbers.latest {
+        let i = *row as usize;
+        if i < rows.len() && rows[i].ladder.is_same(ladder) {
+            if let Some(number) = numbers.beside[i] {
+                return Some(number);
+            }
+        }
+    }
+    None
 }

@@ -1,5 +1,6 @@
 //! Limit rows: the ladder of a flight's city pair over a period.
 ghost use Rattle.std.specs.Prelude.{◌≡◌, IfOk};
+ghost use Rattle.std.specs.Bool.{OnTrue};
 
 use airline_base::{Airline, Day, Items, Station};
 use seat_nesting::{Ladder, Step};
@@ -52,6 +53,13 @@ impl RowLadder {
         }
     }
 
+    /// Whether the other has the same steps.
+    pub(crate) fn is_same(&self, other: &RowLadder) -> bool
+        ensures { OnTrue result (self.now ≡ other.now) }
+    {
+        are_same(self.steps.as_slice(), other.steps.as_slice())
+    }
+
     /// The ladder, in the memory of the longest.
     pub(crate) fn ladder(&self) -> Ladder
         ensures { result ≡ self.now }
@@ -59,4 +67,11 @@ impl RowLadder {
         let ladder = Ladder::new(self.steps.as_slice());
         ladder.unwrap()
     }
+}
+
+/// Whether the steps are the same.
+fn are_same(left: &[Step], right: &[Step]) -> bool
+    ensures { OnTrue result (left.now ≡ right.now) }
+{
+    left == right
 }

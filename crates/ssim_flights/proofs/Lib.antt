@@ -4,6 +4,7 @@ mod Chaining
 mod Clocks
 pub mod Departing
 mod Expanding
+mod Falling
 mod FirstPlaces
 mod Grouping
 mod Horizons

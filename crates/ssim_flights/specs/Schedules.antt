@@ -1,5 +1,5 @@
 -- The dated flights of a chain of legs.
-use Rattle.std.specs.Prelude.{ℕ, ◌+◌, ◌-◌, ◌<◌, ◌==◌, nat_lt, nat_le, Bool, true, false, ◌&&◌, is_none, if◌then◌else◌, List, [], ◌∷◌, Option, Some, None, map, filter, length, All, min, slice_index, unwrap_or, unsigned_abs, ℤ, pos, ◌+ℤ◌}
+use Rattle.std.specs.Prelude.{◌≡◌, ℕ, ◌+◌, ◌-◌, ◌<◌, ◌≤◌, ◌==◌, nat_lt, nat_le, Bool, true, false, ◌&&◌, is_none, if◌then◌else◌, List, [], ◌∷◌, Option, Some, None, map, filter, length, All, min, slice_index, unwrap_or, unsigned_abs, ℤ, pos, ◌+ℤ◌}
 use Rattle.std.specs.Int.{int_div_euclid, int_rem_euclid}
 use Rattle.std.specs.Option.{option_or}
 use Rattle.std.specs.List.{list_any, range_with_len}
@@ -112,6 +112,21 @@ falling_after i before (leg ∷ legs) =
 abbrev pub falling_at : List Scheduled → List ℕ → Option ℕ
 falling_at legs [] = None
 falling_at legs (i ∷ rows) = option_or (falling_after i 0 legs) (falling_at legs rows)
+
+-- the local day of a leg comes again n operations later, so many days later
+pub record Repeats (n later : ℕ) (leg : Scheduled) : Type 0 where
+  pub at : (i : ℕ) → i + n < length leg.operations → local_at leg (i + n) ≡ local_at leg i + later
+
+-- and those of all legs together
+pub record RepeatTogether (n : ℕ) (legs : List Scheduled) : Type 0 where
+  pub some : 1 ≤ n
+  pub later : ℕ
+  pub each : All (Repeats n later) legs
+
+-- these indices follow one another
+pub record AreNext (rows : List ℕ) : Type 0 where
+  pub begin : ℕ
+  pub at : (k : ℕ) → k < length rows → slice_index rows k ≡ begin + k
 
 -- the first such leg in the horizon, by date and then by leg
 unfoldable pub falling_back : Plan → List Scheduled → Option ℕ

@@ -2,6 +2,7 @@
 use Rattle.std.specs.Prelude.{◌≡◌, ℕ, ◌+◌, ◌*◌, ◌/◌, ◌%◌, ◌<◌, ◌≤◌, List, ◌++◌, All, length, map, slice_index, slice_range, ℤ, pos, ◌+ℤ◌, unsigned_abs}
 use Rattle.ssim_flights.specs.declared.flight.DatedLeg.{DatedLeg}
 use Rattle.ssim_flights.specs.declared.flight.Flight.{Flight}
+use Rattle.ssim_flights.specs.declared.local_days.InRound.{InRound}
 use Rattle.ssim_flights.specs.declared.local_days.LocalDays.{LocalDays}
 use Rattle.ssim_flights.specs.declared.schedule.Scheduled.{Scheduled}
 use Rattle.ssim_flights.specs.declared.timetable.FlightRow.{FlightRow}
@@ -15,6 +16,13 @@ use Rattle.ssim_flights.specs.Schedules.{dated_leg, Reaches}
 -- local day i: that of its place in the first round, so many rounds later
 abbrev pub local_of : LocalDays → ℕ → ℕ
 local_of days i = slice_index days.first (i % days.many) + i / days.many * days.round
+
+-- a row among rounds of so many rows each
+pub record IsInRound (row many : ℕ) (at : InRound) : Type 0 where
+  pub row_is : at.row ≡ row
+  pub many_is : at.many ≡ many
+  pub past_is : at.past ≡ row / many
+  pub place_is : at.place ≡ row % many
 
 -- there is an i-th local day
 pub record IsFit (i : ℕ) (days : LocalDays) : Type 0 where

@@ -1,6 +1,6 @@
 //! The local days of a leg's departures in few bytes, by those of a first round.
 ghost use Rattle.std.specs.Prelude.{◌≡◌, ◌≤◌, unsigned_abs, pos, negsuc, ◌+ℤ◌, ◌≤ℤ◌};
-ghost use Rattle.ssim_flights.specs.Timetables.{local_of, IsFit};
+ghost use Rattle.ssim_flights.specs.Timetables.{local_of, IsFit, IsInRound};
 
 use airline_base::Day;
 
@@ -15,16 +15,55 @@ pub(crate) struct LocalDays {
     pub round: u8,
 }
 
-impl LocalDays {
-    /// Day `i`, counted from 0.
-    pub(crate) fn day(&self, i: u16) -> Day
-        requires { IsFit i self.now }
-        ensures { result ≡ local_of self.now i }
+/// Where a row stands among rounds of so many rows each.
+#[derive(Clone, Copy)]
+pub(crate) struct InRound {
+    pub row: u16,
+    /// How many rows a round has.
+    pub many: u8,
+    /// How many rounds lie ahead of the row's own.
+    pub past: u16,
+    /// Its place in its round, counted from 0.
+    pub place: u8,
+}
+
+impl InRound {
+    /// A row among rounds of so many.
+    pub(crate) fn of(row: u16, many: u8) -> InRound
+        requires { 1 ≤ many }
+        ensures { IsInRound row many result }
     {
-        let i = u32::from(i);
-        let many = u32::from(self.many);
-        let past = i / many * u32::from(self.round);
-        let first = u32::from(self.first[(i % many) as usize]);
+        let rows = u16::from(many);
+        InRound {
+            row,
+            many,
+            past: row / rows,
+            place: (row % rows) as u8,
+        }
+    }
+
+    /// The same row among rounds of so many. Legs of one flight mostly have rounds alike, and a division is dear.
+    pub(crate) fn among(&self, many: u8) -> InRound
+        requires some { 1 ≤ many }
+        requires here { IsInRound self.now.row self.now.many self.now }
+        ensures { IsInRound self.now.row many result }
+    {
+        if self.many == many {
+            return *self;
+        }
+        InRound::of(self.row, many)
+    }
+}
+
+impl LocalDays {
+    /// The day of a row, which stands among rounds like these.
+    pub(crate) fn day(&self, at: &InRound) -> Day
+        requires fit { IsFit at.now.row self.now }
+        requires here { IsInRound at.now.row self.now.many at.now }
+        ensures { result ≡ local_of self.now at.now.row }
+    {
+        let past = u32::from(at.past) * u32::from(self.round);
+        let first = u32::from(self.first[usize::from(at.place)]);
         Day::numbered(first + past)
     }
 }

@@ -1,11 +1,14 @@
 //! The rows of one chain of legs, and what can be wrong with its days.
-ghost use Rattle.std.specs.Prelude.{◌≡◌, ◌<◌, All, get_or, is_none, length};
+ghost use Rattle.std.specs.Prelude.{◌≡◌, ◌<◌, All, get_or, is_none, length, take, IfSome};
 ghost use Rattle.std.specs.List.{list_any};
-ghost use Rattle.ssim_flights.specs.Schedules.{differing, falling_after, falling_at, rows, Reaches};
+ghost use Rattle.ssim_flights.specs.Schedules.{differing, falling_after, falling_at, rows, AreNext, Reaches, RepeatTogether};
 
 use crate::plan::Plan;
 use crate::schedule::{Scheduled, shortest};
 use std::marker::Model;
+
+// A round has no more operations.
+const LONGEST_ROUND: usize = 14;
 
 /// Indices that follow one another. Contracts see them as their list.
 #[derive(Drop)]
@@ -30,6 +33,17 @@ impl RowRange {
         ensures { result ≡ length self.now }
     {
         self.end - self.begin
+    }
+
+    /// The first so many of them.
+    fn first(&self, count: usize) -> RowRange
+        ensures first { result ≡ take count self.now }
+        ensures next { AreNext self.now }
+    {
+        RowRange {
+            begin: self.begin,
+            end: self.begin + count.min(self.len()),
+        }
     }
 
     /// Index `k` of them, counted from 0.
@@ -92,12 +106,56 @@ pub(crate) fn falling_back(legs: &[Scheduled], rows: &RowRange) -> Option<u32>
     if legs.len() < 2 {
         return None;
     }
+    falling_among(legs, &telling_rows(legs, rows))
+}
+
+/// The same of these rows, each of which is looked at.
+fn falling_among(legs: &[Scheduled], rows: &RowRange) -> Option<u32>
+    requires { All (Reaches legs.now) rows.now }
+    ensures { result ≡ falling_at legs.now rows.now }
+{
     for k in 0..rows.len() {
         if let Some(serial) = falling_on(legs, rows.at(k)) {
             return Some(serial);
         }
     }
     None
+}
+
+/// The first rows, which tell of all where a leg falls back: those of one round, where all legs have rounds alike.
+fn telling_rows(legs: &[Scheduled], rows: &RowRange) -> RowRange
+    requires { All (Reaches legs.now) rows.now }
+    ensures reach { All (Reaches legs.now) result }
+    ensures same { falling_at legs.now rows.now ≡ falling_at legs.now result }
+{
+    let all = rows.len();
+    if all <= LONGEST_ROUND {
+        return rows.first(all);
+    }
+    match round_of(legs) {
+        Some(round) => rows.first(round),
+        None => rows.first(all),
+    }
+}
+
+/// After how many operations the local days of all legs come again together, where they do.
+fn round_of(legs: &[Scheduled]) -> Option<usize>
+    ensures { IfSome result (λ n. RepeatTogether n legs.now) }
+{
+    let Some((first, rest)) = legs.split_first() else {
+        return None;
+    };
+    let days = first.operations.locals();
+    if days.many == 0 {
+        return None;
+    }
+    for leg in rest {
+        let others = leg.operations.locals();
+        if others.many != days.many || others.round != days.round {
+            return None;
+        }
+    }
+    Some(usize::from(days.many))
 }
 
 fn falling_on(legs: &[Scheduled], i: usize) -> Option<u32>

@@ -6,7 +6,7 @@ ghost use Rattle.ssim_flights.specs.Slots.{has_name, is_wanted};
 ghost use Rattle.ssim_flights.specs.Timetables.{at_row, flights_in, legs_at, planned_on, ArePlanned, IsFit, IsPlanned, IsTable};
 
 use crate::flight::{DatedLeg, DatedLegs, Flight, Wanted};
-use crate::local_days::LocalDays;
+use crate::local_days::{InRound, LocalDays};
 use crate::plan::Plan;
 use crate::rows::RowRange;
 use crate::schedule::Scheduled;
@@ -147,9 +147,11 @@ fn dated_legs(legs: &[PlannedLeg], row: u16) -> DatedLegs
     ensures { result ≡ map (planned_on row) legs.now }
 {
     let mut dated = DatedLegs::new();
+    let mut at = InRound::of(row, 7);
     for planned in legs {
+        at = at.among(planned.days.many);
         dated.push(DatedLeg {
-            day: planned.days.day(row),
+            day: planned.days.day(&at),
             time: planned.time,
             board: planned.board,
             off: planned.off,

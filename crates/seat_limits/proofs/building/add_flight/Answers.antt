@@ -1,5 +1,4 @@
 use Rattle.std.proofs.Common.{◌≡◌, List, [], ◌∷◌, ◌++◌, map, refl, ap, sym, subst, ◌∙◌}
-use Rattle.std.specs.Result.{OnOk}
 use Rattle.std.proofs.lemmas.List.{length-map, take_all}
 use Rattle.ssim_flights.specs.declared.flight.DatedLeg.{DatedLeg}
 use Rattle.seat_nesting.specs.Nesting.{Steps}
@@ -28,7 +27,7 @@ loop-j-preserved c =
           ap (λ (p : Planned). p.legs) c.in-Ok-add_leg.ensures
           ∙ ap (λ (l : List Steps). l ++ steps ∷ []) c.in-Ok.ensures.legs
           ∙ legs_more c.loop-j.plan.legs steps c.as_slice-legs.result.now given c.loop-j.j c.index-legs-j.result c.loop-j.invariant.legs c.loop-j-test.true c.index-legs-j.is its;
-      numbers = subst (λ (l : List Steps). AreNumbers c.number_of.new.numbers.items c.args.rows.now l) (sym (ap (λ (p : Planned). p.ladders) c.in-Ok-add_leg.ensures)) c.in-Ok.ensures.numbers;
+      numbers = subst (λ (l : List Steps). AreNumbers c.number_of.new.numbers.beside.items c.args.rows.now l) (sym (ap (λ (p : Planned). p.ladders) c.in-Ok-add_leg.ensures)) c.in-Ok.ensures.numbers;
       nears = c.row_of-row.ensures.nears;
     }
 

@@ -1,4 +1,4 @@
-use Rattle.std.proofs.Common.{◌≡◌, ℕ, map, take}
+use Rattle.std.proofs.Common.{◌≡◌, map, take}
 use Rattle.ssim_flights.specs.declared.flight.DatedLeg.{DatedLeg}
 use Rattle.seat_limits.specs.Authorised.{authorised, leg_pair, AreNumbers}
 use Rattle.seat_limits.specs.RowStretches.{AllKnow}
@@ -8,6 +8,6 @@ abbrev pub invariant-loop-j : goal.invariant-loop-j
 invariant-loop-j l = record {
   flights : l.plan.flights ≡ l.fn.plan.flights;
   legs : l.plan.legs ≡ take l.j (map (λ (leg : DatedLeg). authorised l.rows (leg_pair l.flight leg) leg.day) l.legs);
-  numbers : AreNumbers l.numbers.items l.rows l.plan.ladders;
+  numbers : AreNumbers l.numbers.beside.items l.rows l.plan.ladders;
   nears : AllKnow l.index.last l.nears;
 }

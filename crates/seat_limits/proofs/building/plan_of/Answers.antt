@@ -1,4 +1,4 @@
-use Rattle.std.proofs.Common.{◌≡◌, ◌≤◌, List, [], length, map, sym, ap, subst, ◌∙◌, arith}
+use Rattle.std.proofs.Common.{◌≤◌, List, length, map, sym, ap, subst, ◌∙◌, arith}
 use Rattle.std.proofs.lemmas.List.{take_all}
 use Rattle.std.proofs.lemmas.List.Elements.{All-replicate}
 use Rattle.seat_nesting.specs.Nesting.{Steps}
@@ -13,7 +13,7 @@ pub loop-i-init : goal.loop-i-init
 loop-i-init c = record {
   flights = ap (λ (p : Planned). p.flights) c.in-Ok-new.ensures;
   closed = ap (λ (p : Planned). p.legs) c.in-Ok-new.ensures;
-  numbers = subst (λ (l : List Steps). AreNumbers c.in-Ok.numbers.items c.args.rows.now l) (sym (ap (λ (p : Planned). p.ladders) c.in-Ok-new.ensures)) c.in-Ok.ensures;
+  numbers = subst (λ (l : List Steps). AreNumbers c.in-Ok.numbers.beside.items c.args.rows.now l) (sym (ap (λ (p : Planned). p.ladders) c.in-Ok-new.ensures)) c.in-Ok.ensures;
   nears = All-replicate (λ (near : Near). Knows c.args.index.now.last near.known) 8 c.nothing-nears.result (subst (Knows c.args.index.now.last) (sym c.nothing-nears.ensures) tt);
 }
 

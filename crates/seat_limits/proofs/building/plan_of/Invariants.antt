@@ -7,6 +7,6 @@ abbrev pub invariant-loop-i : goal.invariant-loop-i
 invariant-loop-i l = record {
   flights : l.plan.flights ≡ map (authorised_legs l.rows) (take l.i l.flights);
   closed : l.plan.legs ≡ [];
-  numbers : AreNumbers l.numbers.items l.rows l.plan.ladders;
+  numbers : AreNumbers l.numbers.beside.items l.rows l.plan.ladders;
   nears : AllKnow l.index.last l.nears;
 }
